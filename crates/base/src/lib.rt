@@ -1,0 +1,1 @@
+// General definitions and laws that every other crate cites. No code.
