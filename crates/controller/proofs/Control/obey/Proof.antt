@@ -1,0 +1,66 @@
+-- Each arm puts together what its callees give, as the clause of `obeyed` does.
+use borrow.Author.Needs.{needs}
+use Rattle.controller.specs.Instructions.{obeyed}
+use Rattle.controller.proofs.Ranges.{counter-64}
+use Rattle.controller.proofs.Control.obey.Statement.{statement}
+use Rattle.controller.proofs.Control.obey.Tie as tie
+
+pub obey-spec : {M : Type 1} → statement M
+unfolding obeyed
+obey-spec =
+    tie.close
+    (tie.spec
+    (λ c κs. search needs)
+    (λ c. search needs)
+    (λ c. search needs)
+    (λ c κs. search needs)
+    (λ c. search needs)
+    (λ c κs. search needs)
+    (λ c. search needs)
+    (λ c κs. search needs)
+    (λ c. search needs)
+    (λ c κs. search needs)
+    (λ c. search needs)
+    (λ c κs. counter-64 _ (c .before .before .before .before .before .before .pre .0))
+    (λ c κs. search needs)
+    (λ c κs. search needs)
+    (λ c. search needs)
+    (λ c κs. search needs)
+    (λ c κs. search needs)
+    (λ c. search needs)
+    (λ c κs. search needs)
+    (λ c κs. search needs)
+    (λ c. search needs)
+    (λ c κs. search needs)
+    (λ c κs. search needs)
+    (λ c. search needs)
+    (λ c κs. search needs)
+    (λ c κs. search needs)
+    (λ c. search needs)
+    (λ c κs. search needs)
+    (λ c. search needs)
+    (λ c κs. search needs)
+    (λ c. search needs)
+    (λ c κs. rw (c .before .instruction9 .given .1) at (c .before .before .before .before .before .before .pre .1))
+    (λ c κs. search needs)
+    (λ c. search needs)
+    (λ c κs. search needs)
+    (λ c κs. search needs)
+    (λ c. search needs)
+    (λ c κs. search needs)
+    (λ c κs. search needs)
+    (λ c. rw (c .enum-told .given .1))
+    (λ c. rw (c .home .ensures, c .before .before .before .begun .ensures, c .before .enum-told2 .given .1))
+    (λ c. rw (c .home2 .ensures, c .before .before .before .begun .ensures, c .before .enum-told3 .given .1))
+    (λ c. rw (c .with-entry .ensures, c .before .before .before .before .begun .ensures, c .before .before .instruction .given .1))
+    (λ c. rw (c .with-shown .ensures, c .before .before .before .before .begun .ensures, c .before .before .instruction2 .given .1))
+    (λ c. rw (c .with-place .ensures, c .before .pointed .ensures, c .before .before .stepped .ensures, c .before .before .before .before .before .before .begun .ensures, c .before .before .before .before .instruction3 .given .1))
+    (λ c. rw (c .with-view .ensures, c .before .display-moved .ensures, c .before .before .before .before .before .begun .ensures, c .before .before .before .instruction4 .given .1))
+    (λ c. rw (c .with-function .ensures, c .before .set .ensures, c .before .before .before .before .before .before .begun .ensures, c .before .before .before .before .instruction5 .given .1))
+    (λ c. rw (c .with-place2 .ensures, c .before .pointed2 .ensures, c .before .before .before .before .before .begun .ensures, c .before .before .before .instruction6 .given .1))
+    (λ c. rw (c .with-place3 .ensures, c .before .pointed3 .ensures, c .before .before .before .before .before .begun .ensures, c .before .before .before .instruction7 .given .1))
+    (λ c. rw (c .with-standby .ensures, c .before .before .before .begun .ensures, c .before .enum-told4 .given .1))
+    (λ c. rw (c .with-sr .ensures, c .before .before .before .before .begun .ensures, c .before .before .instruction8 .given .1))
+    (λ c. rw (c .with-view2 .ensures, c .before .reverse-toggled .ensures, c .before .before .before .before .before .begun .ensures, c .before .before .before .instruction9 .given .1))
+    (λ c. rw (c .with-view3 .ensures, c .before .scrolled .ensures, c .before .before .before .before .before .begun .ensures, c .before .before .before .instruction10 .given .1))
+    (λ c. rw (c .with-place4 .ensures, c .before .graphic-addressed .ensures, c .before .before .before .before .before .begun .ensures, c .before .before .before .instruction11 .given .1)))

@@ -1,0 +1,15 @@
+-- What the ranges say of the counter, whatever the target.
+use Prim.Native.Nat.{ℕ, _<_}
+use native.Mathlib.Omega.{arith}
+use Rattle.table.specs.declared.Target.{Target}
+use Rattle.table.specs.declared.Target.the-variants.{Text, Glyph, Graphic}
+use Rattle.controller.specs.declared.Control.{Control}
+use Rattle.controller.specs.State.{limit, InRange}
+
+pub limit-64 : (t : Target) {k : ℕ} → k < limit t → k < 64
+limit-64 Text h = h
+limit-64 Glyph h = h
+limit-64 Graphic h = omega arith
+
+pub counter-64 : (c : Control) → InRange c → c .place .counter < 64
+counter-64 c r = limit-64 (c .place .target) (r .counter)

@@ -1,0 +1,135 @@
+-- Document 01, "Instructions": what each entry of the table does to the controls, and to text memory.
+use Prim.Native.Nat.{ℕ, _+_, _%_}
+use mathlib.Core.Bool.{Bool, true, false, not}
+use mathlib.Core.List.{List}
+use lib.ListN.{getD, set, replicate}
+use Rattle.base.specs.Choice.{if_then_else_}
+use Rattle.base.specs.Bits.{bits5-0, bits3-0}
+use Rattle.table.specs.declared.Target.{Target}
+use Rattle.table.specs.declared.Target.the-variants.{Text, Glyph, Graphic}
+use Rattle.table.specs.declared.Modes.{Modes}
+use Rattle.table.specs.declared.Instruction.{Instruction}
+use Rattle.table.specs.declared.Instruction.the-variants.{Ignored, Clear, Home, EntryMode, Display, MoveCursor, MoveDisplay, FunctionSet, GlyphAddress, TextAddress, Standby, SetSr, ToggleReverse, Scroll, GraphicAddress}
+use Rattle.controller.specs.declared.Waiting.{Waiting}
+use Rattle.controller.specs.declared.Waiting.the-variants.{Nothing, Row}
+use Rattle.controller.specs.declared.Place.{Place}
+use Rattle.controller.specs.declared.Entry.{Entry}
+use Rattle.controller.specs.declared.Shown.{Shown}
+use Rattle.controller.specs.declared.Function.{Function}
+use Rattle.controller.specs.declared.View.{View}
+use Rattle.controller.specs.declared.Control.{Control}
+
+-- the controls with one part put in
+abbrev pub withPlace : Place → Control → Control
+withPlace p c = record { place = p; entry = c .entry; shown = c .shown; function = c .function; sr = c .sr; view = c .view; standby = c .standby }
+
+abbrev pub withEntry : Entry → Control → Control
+withEntry e c = record { place = c .place; entry = e; shown = c .shown; function = c .function; sr = c .sr; view = c .view; standby = c .standby }
+
+abbrev pub withShown : Shown → Control → Control
+withShown s c = record { place = c .place; entry = c .entry; shown = s; function = c .function; sr = c .sr; view = c .view; standby = c .standby }
+
+abbrev pub withFunction : Function → Control → Control
+withFunction f c = record { place = c .place; entry = c .entry; shown = c .shown; function = f; sr = c .sr; view = c .view; standby = c .standby }
+
+abbrev pub withSr : Bool → Control → Control
+withSr sr c = record { place = c .place; entry = c .entry; shown = c .shown; function = c .function; sr = sr; view = c .view; standby = c .standby }
+
+abbrev pub withView : View → Control → Control
+withView v c = record { place = c .place; entry = c .entry; shown = c .shown; function = c .function; sr = c .sr; view = v; standby = c .standby }
+
+abbrev pub withStandby : Bool → Control → Control
+withStandby s c = record { place = c .place; entry = c .entry; shown = c .shown; function = c .function; sr = c .sr; view = c .view; standby = s }
+
+-- an address set, clear, home or a cursor move: the high half next, and a dummy read due
+abbrev pub pointed : Target → ℕ → ℕ → Place
+pointed target counter row = record { target = target; counter = counter; row = row; low = false; dummy = true; waiting = Nothing }
+
+-- the place with another waiting row, or none
+abbrev pub withWaiting : Waiting → Place → Place
+withWaiting w p = record { target = p .target; counter = p .counter; row = p .row; low = p .low; dummy = p .dummy; waiting = w }
+
+-- every executed instruction drops a waiting row, unless it is its column, and ends standby, unless it is standby
+abbrev pub begun : Control → Control
+begun c = withStandby false (withPlace (withWaiting Nothing (c .place)) c)
+
+-- a graphic address: first the row, which waits; then the column, and only then do target, row and column change
+abbrev pub graphicAddressed : Waiting → Place → ℕ → Place
+graphicAddressed Nothing p a = withWaiting (Row (bits5-0 a)) p
+graphicAddressed (Row y) p a = pointed Graphic (bits3-0 a) y
+
+-- the counter one to the right or to the left, modulo 64
+abbrev pub stepped : Bool → ℕ → ℕ
+stepped right k = if right then (k + 1) % 64 else (k + 63) % 64
+
+-- display left adds 1 to the shift modulo 16, right subtracts 1
+abbrev pub displayMoved : Bool → View → View
+displayMoved right v =
+    record { scroll = v .scroll; shift = if right then (v .shift + 15) % 16 else (v .shift + 1) % 16; reversed = v .reversed }
+
+-- home: target text, counter 0, shift 0
+abbrev pub home : Control → Control
+home c =
+    withView (record { scroll = c .view .scroll; shift = 0; reversed = c .view .reversed })
+    (withPlace (pointed Text 0 (c .place .row)) c)
+
+-- function set: bit 4 DL, bit 2 RE, bit 1 G (RE = 1 only); if bit 2 differs from RE, only RE changes
+abbrev pub functionSet : Function → Bool → Bool → Bool → Function
+functionSet f dl re g = by (f .re) re
+  where
+    by : Bool → Bool → Function
+    by false false = record { dl = dl; re = false; g = f .g }
+    by true true = record { dl = dl; re = true; g = g }
+    by false true = record { dl = f .dl; re = true; g = f .g }
+    by true false = record { dl = f .dl; re = false; g = f .g }
+
+-- the reverse of a line is toggled
+abbrev pub reverseToggled : ℕ → View → View
+reverseToggled line v =
+    record { scroll = v .scroll; shift = v .shift; reversed = set (v .reversed) line (not (getD (v .reversed) line false)) }
+
+abbrev pub scrolled : ℕ → View → View
+scrolled rows v = record { scroll = rows; shift = v .shift; reversed = v .reversed }
+
+-- the table's entries, one by one
+unfoldable pub obeyed : Control → Instruction → Control
+obeyed c Ignored = c
+obeyed c Clear = home (begun c)
+obeyed c Home = home (begun c)
+obeyed c (EntryMode id s) = withEntry (record { id = id; s = s }) (begun c)
+obeyed c (Display display cursor blink) = withShown (record { display = display; cursor = cursor; blink = blink }) (begun c)
+obeyed c (MoveCursor right) = withPlace (pointed Text (stepped right (c .place .counter)) (c .place .row)) (begun c)
+obeyed c (MoveDisplay right) = withView (displayMoved right (c .view)) (begun c)
+obeyed c (FunctionSet dl re g) = withFunction (functionSet (c .function) dl re g) (begun c)
+obeyed c (GlyphAddress a) = withPlace (pointed Glyph a (c .place .row)) (begun c)
+obeyed c (TextAddress a) = withPlace (pointed Text a (c .place .row)) (begun c)
+obeyed c Standby = withStandby true (begun c)
+obeyed c (SetSr sr) = withSr sr (begun c)
+obeyed c (ToggleReverse line) = withView (reverseToggled line (c .view)) (begun c)
+obeyed c (Scroll rows) = withView (scrolled rows (c .view)) (begun c)
+obeyed c (GraphicAddress a) = withPlace (graphicAddressed (c .place .waiting) (c .place) a) (begun c)
+
+-- clear: text bytes 20h
+abbrev pub clears : Instruction → Bool
+clears Ignored = false
+clears Clear = true
+clears Home = false
+clears (EntryMode id s) = false
+clears (Display display cursor blink) = false
+clears (MoveCursor right) = false
+clears (MoveDisplay right) = false
+clears (FunctionSet dl re g) = false
+clears (GlyphAddress a) = false
+clears (TextAddress a) = false
+clears Standby = false
+clears (SetSr sr) = false
+clears (ToggleReverse line) = false
+clears (Scroll rows) = false
+clears (GraphicAddress a) = false
+
+abbrev pub cleared : Instruction → List ℕ → List ℕ
+cleared i text = if clears i then replicate 128 0x20 else text
+
+-- what the table asks for beside the byte
+abbrev pub modes : Control → Modes
+modes c = record { re = c .function .re; sr = c .sr; target = c .place .target }

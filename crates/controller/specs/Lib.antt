@@ -1,0 +1,3 @@
+pub mod Memories
+pub mod State
+pub mod Instructions

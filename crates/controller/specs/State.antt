@@ -1,0 +1,85 @@
+-- Document 01, "Memories and flags": everything but the memories and the link. What it is when fresh, and the ranges it keeps to.
+use Prim.Native.Nat.{ℕ, _<_}
+use Prim.{Unit}
+use mathlib.Core.Bool.{Bool, true, false}
+use mathlib.Core.Path.{_≡_}
+use mathlib.Core.List.{List}
+use lib.ListN.{length, replicate}
+use Rattle.table.specs.declared.Target.{Target}
+use Rattle.table.specs.declared.Target.the-variants.{Text, Glyph, Graphic}
+use Rattle.table.specs.declared.Instruction.{Instruction}
+use Rattle.table.specs.declared.Instruction.the-variants.{Ignored, Clear, Home, EntryMode, Display, MoveCursor, MoveDisplay, FunctionSet, GlyphAddress, TextAddress, Standby, SetSr, ToggleReverse, Scroll, GraphicAddress}
+use Rattle.controller.specs.declared.Waiting.{Waiting}
+use Rattle.controller.specs.declared.Waiting.the-variants.{Nothing, Row}
+use Rattle.controller.specs.declared.Place.{Place}
+use Rattle.controller.specs.declared.Entry.{Entry}
+use Rattle.controller.specs.declared.Shown.{Shown}
+use Rattle.controller.specs.declared.Function.{Function}
+use Rattle.controller.specs.declared.View.{View}
+use Rattle.controller.specs.declared.Control.{Control}
+use Rattle.controller.specs.Memories.{Memories}
+
+-- target text, counter 0, high half next; no row waiting, no dummy read due
+abbrev pub freshPlace : Place
+freshPlace = record { target = Text; counter = 0; row = 0; low = false; dummy = false; waiting = Nothing }
+
+-- scroll 0, shift 0, no line reversed
+abbrev pub freshView : View
+freshView = record { scroll = 0; shift = 0; reversed = replicate 4 false }
+
+-- I/D 1, S 0; display, cursor, blink, RE, SR, G 0; DL 1; no standby
+unfoldable pub fresh : Control
+fresh =
+    record {
+      place = freshPlace;
+      entry = record { id = true; s = false };
+      shown = record { display = false; cursor = false; blink = false };
+      function = record { dl = true; re = false; g = false };
+      sr = false;
+      view = freshView;
+      standby = false;
+    }
+
+-- the counter has 6 bits for text and glyph memory, 4 for graphic memory
+abbrev pub limit : Target → ℕ
+limit Text = 64
+limit Glyph = 64
+limit Graphic = 16
+
+abbrev pub RowInRange : Waiting → Type 0
+RowInRange Nothing = Unit {0}
+RowInRange (Row y) = y < 64
+
+-- the controls lie within these ranges
+pub record InRange (c : Control) : Type 0 where
+  pub counter : c .place .counter < limit (c .place .target)
+  pub row : c .place .row < 64
+  pub waiting : RowInRange (c .place .waiting)
+  pub scroll : c .view .scroll < 64
+  pub shift : c .view .shift < 16
+  pub lines : length (c .view .reversed) ≡ 4
+
+-- a state that may be handed to a call: its controls lie within their ranges, and its memories have their sizes
+pub record Valid (m : Memories) (c : Control) : Type 0 where
+  pub control : InRange c
+  pub text : length (m .text) ≡ 128
+  pub glyph : length (m .glyph) ≡ 128
+  pub graphic : length (m .graphic) ≡ 2048
+
+-- the values that an instruction carries are those that its bits can make
+abbrev pub Within : Instruction → Type 0
+Within Ignored = Unit {0}
+Within Clear = Unit {0}
+Within Home = Unit {0}
+Within (EntryMode id s) = Unit {0}
+Within (Display display cursor blink) = Unit {0}
+Within (MoveCursor right) = Unit {0}
+Within (MoveDisplay right) = Unit {0}
+Within (FunctionSet dl re g) = Unit {0}
+Within (GlyphAddress a) = a < 64
+Within (TextAddress a) = a < 64
+Within Standby = Unit {0}
+Within (SetSr sr) = Unit {0}
+Within (ToggleReverse line) = line < 4
+Within (Scroll rows) = rows < 64
+Within (GraphicAddress a) = a < 64

@@ -1,0 +1,84 @@
+// The controller: all of the panel's state but the link, after document 01's "Memories and flags", and what the transfers do to it.
+// The three memories are arrays that the caller lends; everything else is `Control`, which goes in and comes back by value.
+use table::Target;
+// pub mod data;
+pub mod instructions;
+// pub mod named;
+pub mod places;
+
+// A graphic row that waits for its column.
+pub enum Waiting {
+    Nothing,
+    Row(u8),
+}
+
+// Where the next data transfer goes.
+pub struct Place {
+    pub target: Target,
+    pub counter: u8,
+    pub row: u8,
+    // Whether the low half comes next.
+    pub low: bool,
+    // Whether a dummy read is due.
+    pub dummy: bool,
+    pub waiting: Waiting,
+}
+
+// I/D and S.
+pub struct Entry {
+    pub id: bool,
+    pub s: bool,
+}
+
+// Display, cursor and blink.
+pub struct Shown {
+    pub display: bool,
+    pub cursor: bool,
+    pub blink: bool,
+}
+
+// DL, RE and G: what a function set speaks of.
+pub struct Function {
+    pub dl: bool,
+    pub re: bool,
+    pub g: bool,
+}
+
+// How the glass looks at the memories.
+pub struct View {
+    pub scroll: u8,
+    pub shift: u8,
+    pub reversed: [bool; 4],
+}
+
+pub struct Control {
+    pub place: Place,
+    pub entry: Entry,
+    pub shown: Shown,
+    pub function: Function,
+    pub sr: bool,
+    pub view: View,
+    pub standby: bool,
+}
+
+// A text word's cell, or none: the counter has one only where the target is text.
+pub enum Cell {
+    Nowhere,
+    Word(u8),
+}
+
+// Which bytes of the glass a transfer names.
+pub enum Region {
+    Nothing,
+    Whole,
+    Cells(Cell, Cell),
+    GlyphHalf { word: u8, low: bool },
+    GraphicHalf { row: u8, column: u8, low: bool },
+}
+
+// What a transfer leaves beside the memories: the next controls, the reply, and what it names.
+pub struct Done {
+    pub control: Control,
+    pub reply: u8,
+    pub region: Region,
+}
