@@ -1,3 +1,7 @@
 pub mod Memories
 pub mod State
 pub mod Instructions
+pub mod Data
+pub mod Glass
+pub mod Named
+pub mod Transfers

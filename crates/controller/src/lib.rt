@@ -1,10 +1,12 @@
 // The controller: all of the panel's state but the link, after document 01's "Memories and flags", and what the transfers do to it.
 // The three memories are arrays that the caller lends; everything else is `Control`, which goes in and comes back by value.
 use table::Target;
-// pub mod data;
+
+pub mod data;
 pub mod instructions;
-// pub mod named;
+pub mod named;
 pub mod places;
+pub mod transfers;
 
 // A graphic row that waits for its column.
 pub enum Waiting {
@@ -59,6 +61,12 @@ pub struct Control {
     pub sr: bool,
     pub view: View,
     pub standby: bool,
+}
+
+// What a text word shows of glyph memory: an image, or none.
+pub enum Image {
+    Nothing,
+    Number(u8),
 }
 
 // A text word's cell, or none: the counter has one only where the target is text.

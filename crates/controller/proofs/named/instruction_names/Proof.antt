@@ -1,0 +1,15 @@
+-- By whether standby ends.
+use borrow.Author.Needs.{needs}
+use Rattle.controller.specs.Named.{instructionNames}
+use Rattle.controller.proofs.named.instruction_names.Statement.{statement}
+use Rattle.controller.proofs.named.instruction_names.Tie as tie
+
+pub instruction-names-spec : {M : Type 1} → statement M
+unfolding instructionNames
+instruction-names-spec =
+    tie.close
+    (tie.spec
+    (λ c κs. search needs)
+    (λ c. rw (← c .before .ends-standby .ensures, c .if1 .taken))
+    (λ c κs. search needs)
+    (λ c. rw (← c .before .before .before .before .ends-standby .ensures, c .before .before .before .if1 .left) (c .listed .ensures)))

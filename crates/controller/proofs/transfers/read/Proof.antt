@@ -1,0 +1,17 @@
+-- By whether a dummy read is due.
+use borrow.Author.Needs.{needs}
+use Rattle.controller.specs.Transfers.{readOut}
+use Rattle.controller.proofs.transfers.read.Statement.{statement}
+use Rattle.controller.proofs.transfers.read.Tie as tie
+
+pub read-spec : {M : Type 1} → statement M
+unfolding readOut
+read-spec =
+    tie.close
+    (tie.spec
+    (λ c κs. search needs)
+    (λ c. rw (c .dummy-read .ensures, c .before .if1 .taken))
+    (λ c κs. search needs)
+    (λ c κs. search needs)
+    (λ c κs. search needs)
+    (λ c. rw (c .read-names .ensures, c .before .moved-on .ensures, c .before .before .find .ensures, c .before .before .before .if1 .left)))

@@ -1,0 +1,15 @@
+-- The parts that the callees give.
+use borrow.Author.Needs.{needs}
+use Rattle.controller.specs.Transfers.{written}
+use Rattle.controller.proofs.transfers.write.Statement.{statement}
+use Rattle.controller.proofs.transfers.write.Tie as tie
+
+pub write-spec : {M : Type 1} → statement M
+unfolding written
+write-spec =
+    tie.close
+    (tie.spec
+    (λ c κs. search needs)
+    (λ c κs. search needs)
+    (λ c κs. search needs)
+    (λ c. rw (c .write-names .ensures, c .before .moved-on .ensures, c .before .before .store .ensures)))

@@ -1,0 +1,54 @@
+-- Document 01, "Instructions": each transfer whole, with what it leaves in the memories and the controls, its reply, and what it names.
+use Prim.Native.Nat.{ℕ}
+use mathlib.Core.List.{List}
+use Rattle.base.specs.Choice.{if_then_else_}
+use Rattle.table.specs.Table.{said}
+use Rattle.table.specs.declared.Instruction.{Instruction}
+use Rattle.controller.specs.declared.Control.{Control}
+use Rattle.controller.specs.declared.Region.{Region}
+use Rattle.controller.specs.declared.Region.the-variants.{Nothing}
+use Rattle.controller.specs.declared.Done.{Done}
+use Rattle.controller.specs.Memories.{Memories}
+use Rattle.controller.specs.Instructions.{obeyed, cleared, modes}
+use Rattle.controller.specs.Data.{stored, found, movedOn, dummyRead}
+use Rattle.controller.specs.Named.{instructionNames, writeNames, readNames}
+
+-- what a transfer leaves: the memories, and the rest
+pub record Acted : Type 0 where
+  pub memories : Memories
+  pub done : Done
+
+abbrev pub acted : Memories → Done → Acted
+acted m d = record { memories = m; done = d }
+
+-- what an instruction leaves: of the memories it can change the text alone
+pub record Instructed : Type 0 where
+  pub text : List ℕ
+  pub done : Done
+
+abbrev pub instructed : List ℕ → Done → Instructed
+instructed t d = record { text = t; done = d }
+
+-- the table's entry for a byte is obeyed, and names its region
+abbrev pub obeyedDone : Control → Instruction → Done
+obeyedDone c i = record { control = obeyed c i; reply = 0; region = instructionNames c (obeyed c i) i }
+
+-- an instruction write
+unfoldable pub executed : List ℕ → Control → ℕ → Instructed
+executed text c b = instructed (cleared (said (modes c) b) text) (obeyedDone c (said (modes c) b))
+
+-- a data write: store into the next half; after the low half, step
+unfoldable pub written : Memories → Control → ℕ → Acted
+written m c b =
+    acted (stored (c .place .target) (c .place) b m)
+    (record { control = movedOn c; reply = 0; region = writeNames c (movedOn c) })
+
+-- a data read: if a dummy is due, answer 0; otherwise answer the next half and move as a write does
+unfoldable pub readOut : Memories → Control → Done
+readOut m c =
+    if c .place .dummy then record { control = dummyRead c; reply = 0; region = Nothing }
+    else record { control = movedOn c; reply = found (c .place .target) (c .place) m; region = readNames c (movedOn c) }
+
+-- a status read: busy bit 0, bit 6 zero, the counter; it changes nothing and names none
+unfoldable pub statusRead : Control → Done
+statusRead c = record { control = c; reply = c .place .counter; region = Nothing }

@@ -1,0 +1,97 @@
+// Each transfer whole, on lent memories.
+use crate::Control;
+use crate::Done;
+use crate::Region;
+use crate::data::find;
+use crate::data::store;
+use crate::instructions::clears;
+use crate::named::instruction_names;
+use crate::named::read_names;
+use crate::named::write_names;
+use table::Instruction;
+ghost use mathlib.Core.Path.{_≡_};
+ghost use Rattle.controller.specs.Memories.{before, after};
+ghost use Rattle.controller.specs.State.{InRange};
+ghost use Rattle.controller.specs.Instructions.{cleared};
+ghost use Rattle.controller.specs.Transfers.{acted, instructed, executed, written, readOut, statusRead};
+
+// Clear fills the text; no other instruction touches a memory.
+fn clear(text: &mut [u8; 128], instruction: Instruction)
+    ensures { λ _. ⌜ now (text .exit) ≡ cleared instruction (now (text .entry)) ⌝ }
+{
+    if clears(instruction) {
+        *text = [0x20u8; 128];
+    }
+}
+
+// An instruction write.
+pub fn execute(text: &mut [u8; 128], control: Control, byte: u8) -> Done
+    requires { ⌜ InRange control ⌝ }
+    ensures { λ r. ⌜ instructed (now (text .exit)) r ≡ executed (now (text .entry)) control byte ⌝ }
+{
+    let instruction = table::decode(control.modes(), byte);
+    clear(text, instruction);
+    let next = control.obey(instruction);
+    let region = instruction_names(control, next, instruction);
+    Done {
+        control: next,
+        reply: 0,
+        region,
+    }
+}
+
+// A data write: the byte goes into the next half.
+pub fn write(
+    text: &mut [u8; 128],
+    glyph: &mut [u8; 128],
+    graphic: &mut [u8; 2048],
+    control: Control,
+    byte: u8,
+) -> Done
+    requires { ⌜ InRange control ⌝ }
+    ensures { λ r. ⌜ acted (after text glyph graphic) r ≡ written (before text glyph graphic) control byte ⌝ }
+{
+    store(text, glyph, graphic, control, byte);
+    let next = control.moved_on();
+    let region = write_names(control, next);
+    Done {
+        control: next,
+        reply: 0,
+        region,
+    }
+}
+
+// A data read: 0 if a dummy is due, else the next half.
+pub fn read(text: &[u8; 128], glyph: &[u8; 128], graphic: &[u8; 2048], control: Control) -> Done
+    requires { ⌜ InRange control ⌝ }
+    ensures { λ r. ⌜ r ≡ readOut (before text glyph graphic) control ⌝ }
+{
+    let place = control.place;
+    if place.dummy {
+        let next = control.dummy_read();
+        return Done {
+            control: next,
+            reply: 0,
+            region: Region::Nothing,
+        };
+    }
+    let reply = find(text, glyph, graphic, control);
+    let next = control.moved_on();
+    let region = read_names(control, next);
+    Done {
+        control: next,
+        reply,
+        region,
+    }
+}
+
+// A status read: the counter, and nothing changes.
+pub fn status(control: Control) -> Done
+    ensures { λ r. ⌜ r ≡ statusRead control ⌝ }
+{
+    Done {
+        control,
+        reply: control.place.counter,
+        region: Region::Nothing,
+    }
+}
