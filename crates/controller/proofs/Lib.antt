@@ -1,3 +1,5 @@
 pub mod Halves
 pub mod Ranges
 pub mod Within
+pub mod Kept
+pub mod Leaves
