@@ -178,8 +178,8 @@ movedOn-in-range c r =
     in-range _ (moved-in (c .entry .id) (c .place) (place-in c r))
     (either ViewIn (shifts c) (shifted-in (not (c .entry .id)) (c .view) (view-in c r)) (view-in c r))
 
-dummy-in-range : (c : Control) → InRange c → InRange (dummyRead c)
-dummy-in-range c r =
+pub dummyRead-in-range : (c : Control) → InRange c → InRange (dummyRead c)
+dummyRead-in-range c r =
     in-range (dummyRead c) (record { counter = r .counter; row = r .row; waiting = tt }) (view-in c r)
 
 -- storing a byte keeps the sizes of the memories
@@ -202,7 +202,7 @@ written-valid m c b v =
 pub readOut-in-range : (m : Memories) (c : Control) → InRange c → InRange (readOut m c .control)
 unfolding readOut
 readOut-in-range m c r =
-    either (λ (d : Done). InRange (d .control)) (c .place .dummy) (dummy-in-range c r) (movedOn-in-range c r)
+    either (λ (d : Done). InRange (d .control)) (c .place .dummy) (dummyRead-in-range c r) (movedOn-in-range c r)
 
 pub readOut-valid : (m : Memories) (c : Control) → Valid m c → Valid m (readOut m c .control)
 readOut-valid m c v =

@@ -36,12 +36,16 @@ nextCounter Text id k = stepped id k
 nextCounter Glyph id k = stepped id k
 nextCounter Graphic id k = (k + 1) % 16
 
--- the other half comes next; after the low half, step, in the same row. A data transfer drops the waiting row and leaves the mark
+-- after the low half, step
+abbrev pub counterAfter : Bool → Place → ℕ
+counterAfter id p = if p .low then nextCounter (p .target) id (p .counter) else p .counter
+
+-- the other half comes next, in the same row; a data transfer drops the waiting row, and a write leaves the mark
 unfoldable pub moved : Bool → Place → Place
 moved id p =
     record {
       target = p .target;
-      counter = if p .low then nextCounter (p .target) id (p .counter) else p .counter;
+      counter = counterAfter id p;
       row = p .row;
       low = not (p .low);
       dummy = p .dummy;

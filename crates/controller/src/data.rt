@@ -10,7 +10,7 @@ ghost use mathlib.Core.Path.{_≡_};
 ghost use Prim.Native.Nat.{_<_};
 ghost use Rattle.controller.specs.Memories.{before, after};
 ghost use Rattle.controller.specs.State.{InRange, limit};
-ghost use Rattle.controller.specs.Data.{stored, found, nextCounter, moved, completes, shifts, movedOn, dummyRead};
+ghost use Rattle.controller.specs.Data.{stored, found, nextCounter, counterAfter, moved, completes, shifts, movedOn, dummyRead};
 
 // The byte goes into the next half of the target's memory.
 pub fn store(
@@ -72,35 +72,38 @@ fn next_counter(target: Target, id: bool, counter: u8) -> u8
     match target {
         Target::Text => stepped(id, counter),
         Target::Glyph => stepped(id, counter),
-        Target::Graphic => (counter + 1) % 16,
+        Target::Graphic => stepped(true, counter) % 16,
     }
 }
 
 impl Place {
+    // The counter after this half: the low half completes a word.
+    fn counter_after(self, id: bool) -> u8
+        requires { ⌜ self .counter < limit (self .target) ⌝ }
+        ensures { λ r. ⌜ r ≡ counterAfter id self ⌝ }
+    {
+        let target = self.target;
+        if self.low {
+            return next_counter(target, id, self.counter);
+        }
+        self.counter
+    }
+
     // The place after a half has been written or read.
     fn moved(self, id: bool) -> Place
         requires { ⌜ self .counter < limit (self .target) ⌝ }
         ensures { λ r. ⌜ r ≡ moved id self ⌝ }
     {
         let target = self.target;
-        if self.low {
-            let counter = next_counter(target, id, self.counter);
-            return Place {
-                target,
-                counter,
-                row: self.row,
-                low: false,
-                dummy: self.dummy,
-                waiting: Waiting::Nothing,
-            };
-        }
+        let counter = self.counter_after(id);
+        let waiting = Waiting::Nothing;
         Place {
             target,
-            counter: self.counter,
+            counter,
             row: self.row,
-            low: true,
+            low: !self.low,
             dummy: self.dummy,
-            waiting: Waiting::Nothing,
+            waiting,
         }
     }
 
@@ -137,7 +140,9 @@ impl Control {
         let place = self.place;
         let view = self.view;
         let id = self.entry.id;
-        let next = self.with_place(place.moved(id));
+        let moved = place.moved(id);
+        let mut next = self;
+        next.place = moved;
         if self.shifts() {
             return next.with_view(view.display_moved(!id));
         }
@@ -149,14 +154,10 @@ impl Control {
         ensures { λ r. ⌜ r ≡ dummyRead self ⌝ }
     {
         let place = self.place;
-        let target = place.target;
-        self.with_place(Place {
-            target,
-            counter: place.counter,
-            row: place.row,
-            low: place.low,
-            dummy: false,
-            waiting: Waiting::Nothing,
-        })
+        let dropped = place.with_waiting(Waiting::Nothing);
+        let mut next = self;
+        next.place = dropped;
+        next.place.dummy = false;
+        next
     }
 }

@@ -28,6 +28,7 @@ fn clear(text: &mut [u8; 128], instruction: Instruction)
 pub fn execute(text: &mut [u8; 128], control: Control, byte: u8) -> Done
     requires { ⌜ InRange control ⌝ }
     ensures { λ r. ⌜ instructed (now (text .exit)) r ≡ executed (now (text .entry)) control byte ⌝ }
+    ensures valid { λ r. ⌜ InRange (r .control) ⌝ }
 {
     let instruction = table::decode(control.modes(), byte);
     clear(text, instruction);
@@ -50,6 +51,7 @@ pub fn write(
 ) -> Done
     requires { ⌜ InRange control ⌝ }
     ensures { λ r. ⌜ acted (after text glyph graphic) r ≡ written (before text glyph graphic) control byte ⌝ }
+    ensures valid { λ r. ⌜ InRange (r .control) ⌝ }
 {
     store(text, glyph, graphic, control, byte);
     let next = control.moved_on();
@@ -65,6 +67,7 @@ pub fn write(
 pub fn read(text: &[u8; 128], glyph: &[u8; 128], graphic: &[u8; 2048], control: Control) -> Done
     requires { ⌜ InRange control ⌝ }
     ensures { λ r. ⌜ r ≡ readOut (before text glyph graphic) control ⌝ }
+    ensures valid { λ r. ⌜ InRange (r .control) ⌝ }
 {
     let place = control.place;
     if place.dummy {

@@ -1,4 +1,4 @@
--- By the half.
+-- The counter that `counter_after` gives goes in.
 use borrow.Author.Needs.{needs}
 use Rattle.controller.specs.Data.{moved}
 use Rattle.controller.proofs.Place.moved.Statement.{statement}
@@ -10,5 +10,4 @@ moved-spec =
     tie.close
     (tie.spec
     (λ c κs. search needs)
-    (λ c. rw (c .next-counter .ensures, c .before .if1 .taken))
-    (λ c. rw (c .if1 .left)))
+    (λ c. rw (c .before .counter-after .ensures)))

@@ -1,6 +1,7 @@
 -- By whether a dummy read is due.
 use borrow.Author.Needs.{needs}
 use Rattle.controller.specs.Transfers.{readOut}
+use Rattle.controller.proofs.Kept.{dummyRead-in-range, movedOn-in-range}
 use Rattle.controller.proofs.transfers.read.Statement.{statement}
 use Rattle.controller.proofs.transfers.read.Tie as tie
 
@@ -10,8 +11,8 @@ read-spec =
     tie.close
     (tie.spec
     (λ c κs. search needs)
-    (λ c. rw (c .dummy-read .ensures, c .before .if1 .taken))
+    (λ c. (rw (c .dummy-read .ensures, c .before .if1 .taken), rw (c .dummy-read .ensures) (dummyRead-in-range _ (c .before .before .before .pre))))
     (λ c κs. search needs)
     (λ c κs. search needs)
     (λ c κs. search needs)
-    (λ c. rw (c .read-names .ensures, c .before .moved-on .ensures, c .before .before .find .ensures, c .before .before .before .if1 .left)))
+    (λ c. (rw (c .read-names .ensures, c .before .moved-on .ensures, c .before .before .find .ensures, c .before .before .before .if1 .left), rw (c .before .moved-on .ensures) (movedOn-in-range _ (c .before .before .before .before .before .pre)))))

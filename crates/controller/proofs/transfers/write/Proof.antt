@@ -1,6 +1,7 @@
 -- The parts that the callees give.
 use borrow.Author.Needs.{needs}
 use Rattle.controller.specs.Transfers.{written}
+use Rattle.controller.proofs.Kept.{movedOn-in-range}
 use Rattle.controller.proofs.transfers.write.Statement.{statement}
 use Rattle.controller.proofs.transfers.write.Tie as tie
 
@@ -12,4 +13,4 @@ write-spec =
     (λ c κs. search needs)
     (λ c κs. search needs)
     (λ c κs. search needs)
-    (λ c. rw (c .write-names .ensures, c .before .moved-on .ensures, c .before .before .store .ensures)))
+    (λ c. (rw (c .write-names .ensures, c .before .moved-on .ensures, c .before .before .store .ensures), rw (c .before .moved-on .ensures) (movedOn-in-range _ (c .before .before .before .before .before .before .pre)))))
