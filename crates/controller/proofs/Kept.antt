@@ -1,11 +1,10 @@
 -- Fresh is valid, and every transfer keeps the ranges and the memories' sizes: place and view are looked at apart.
 use Prim.Native.Nat.{ℕ, _<_}
-use mathlib.Core.Bool.{Bool, true, false, not}
+use mathlib.Core.Bool.{Bool, not}
 use mathlib.Core.Path.{_≡_, refl}
 use mathlib.Core.List.{List}
 use native.Mathlib.Omega.{arith}
-use lib.ListN.{length, length-set, replicate}
-use Rattle.base.specs.Choice.{if_then_else_}
+use lib.ListN.{length, length-set}
 use Rattle.base.proofs.Choice.{either}
 use Rattle.table.specs.declared.Target.{Target}
 use Rattle.table.specs.declared.Target.the-variants.{Text, Glyph, Graphic}

@@ -1,8 +1,8 @@
 -- What is left as it was: by an ignored code everything; by an instruction all but the part that its entry names; by a write the
 -- two memories that are not its target's.
 use Prim.Native.Nat.{ℕ}
-use mathlib.Core.Bool.{and-false}
-use mathlib.Core.Path.{_≡_, refl}
+use mathlib.Core.Bool.{true, false, and-false, true≢false}
+use mathlib.Core.Path.{_≡_, refl, sym}
 use mathlib.Core.List.{List}
 use Rattle.table.specs.declared.Target.{Target}
 use Rattle.table.specs.declared.Target.the-variants.{Text, Glyph, Graphic}
@@ -15,7 +15,7 @@ use Rattle.controller.specs.declared.Region.the-variants.{Nothing}
 use Rattle.controller.specs.Memories.{Memories}
 use Rattle.controller.specs.Instructions.{withPlace, withEntry, withShown, withFunction, withSr, withView, withStandby, begun, obeyed, modes}
 use Rattle.controller.specs.Data.{stored}
-use Rattle.controller.specs.Named.{instructionNames}
+use Rattle.controller.specs.Named.{endsStandby, instructionNames}
 use Rattle.controller.specs.Transfers.{instructed, executed, written}
 
 -- an ignored code changes nothing at all, replies 0 and names nothing
@@ -61,6 +61,25 @@ obeyed-leaves c (SetSr sr) = refl
 obeyed-leaves c (ToggleReverse line) = refl
 obeyed-leaves c (Scroll rows) = refl
 obeyed-leaves c (GraphicAddress a) = refl
+
+-- an instruction that is said to end standby ends it
+pub standby-ended : (c : Control) (i : Instruction) → endsStandby i ≡ true → obeyed c i .standby ≡ false
+unfolding obeyed
+standby-ended c Ignored e = absurd (true≢false (sym e))
+standby-ended c Clear e = refl
+standby-ended c Home e = refl
+standby-ended c (EntryMode id s) e = refl
+standby-ended c (Display display cursor blink) e = refl
+standby-ended c (MoveCursor right) e = refl
+standby-ended c (MoveDisplay right) e = refl
+standby-ended c (FunctionSet dl re g) e = refl
+standby-ended c (GlyphAddress a) e = refl
+standby-ended c (TextAddress a) e = refl
+standby-ended c Standby e = absurd (true≢false (sym e))
+standby-ended c (SetSr sr) e = refl
+standby-ended c (ToggleReverse line) e = refl
+standby-ended c (Scroll rows) e = refl
+standby-ended c (GraphicAddress a) e = refl
 
 -- the two memories beside the target's
 abbrev pub OthersKept : Target → Memories → Memories → Type 0

@@ -1,14 +1,12 @@
 -- Document 01, "Instructions": where data transfers go, and how place and view move on.
 use Prim.Native.Nat.{ℕ, _+_, _%_}
 use mathlib.Core.Bool.{Bool, true, false, not, _&&_}
-use mathlib.Core.List.{List}
 use lib.ListN.{getD, set}
 use Rattle.base.specs.Choice.{if_then_else_}
 use Rattle.table.specs.declared.Target.{Target}
 use Rattle.table.specs.declared.Target.the-variants.{Text, Glyph, Graphic}
 use Rattle.controller.specs.declared.Waiting.the-variants.{Nothing}
 use Rattle.controller.specs.declared.Place.{Place}
-use Rattle.controller.specs.declared.View.{View}
 use Rattle.controller.specs.declared.Control.{Control}
 use Rattle.controller.specs.Memories.{Memories, memories, wordPlace, graphicPlace}
 use Rattle.controller.specs.Instructions.{withPlace, withView, stepped, displayMoved}

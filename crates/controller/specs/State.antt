@@ -1,9 +1,8 @@
 -- Document 01, "Memories and flags": everything but the memories and the link. What it is when fresh, and the ranges it keeps to.
 use Prim.Native.Nat.{ℕ, _<_}
 use Prim.{Unit}
-use mathlib.Core.Bool.{Bool, true, false}
+use mathlib.Core.Bool.{true, false}
 use mathlib.Core.Path.{_≡_}
-use mathlib.Core.List.{List}
 use lib.ListN.{length, replicate}
 use Rattle.table.specs.declared.Target.{Target}
 use Rattle.table.specs.declared.Target.the-variants.{Text, Glyph, Graphic}
@@ -12,9 +11,6 @@ use Rattle.table.specs.declared.Instruction.the-variants.{Ignored, Clear, Home,
 use Rattle.controller.specs.declared.Waiting.{Waiting}
 use Rattle.controller.specs.declared.Waiting.the-variants.{Nothing, Row}
 use Rattle.controller.specs.declared.Place.{Place}
-use Rattle.controller.specs.declared.Entry.{Entry}
-use Rattle.controller.specs.declared.Shown.{Shown}
-use Rattle.controller.specs.declared.Function.{Function}
 use Rattle.controller.specs.declared.View.{View}
 use Rattle.controller.specs.declared.Control.{Control}
 use Rattle.controller.specs.Memories.{Memories}

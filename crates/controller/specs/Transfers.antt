@@ -5,7 +5,6 @@ use Rattle.base.specs.Choice.{if_then_else_}
 use Rattle.table.specs.Table.{said}
 use Rattle.table.specs.declared.Instruction.{Instruction}
 use Rattle.controller.specs.declared.Control.{Control}
-use Rattle.controller.specs.declared.Region.{Region}
 use Rattle.controller.specs.declared.Region.the-variants.{Nothing}
 use Rattle.controller.specs.declared.Done.{Done}
 use Rattle.controller.specs.Memories.{Memories}

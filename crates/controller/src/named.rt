@@ -43,7 +43,7 @@ fn both_cells(before: Place, after: Place) -> Region
 }
 
 // Every instruction ends standby, except ignored codes and standby itself.
-fn may_end_standby(instruction: Instruction) -> bool
+fn ends_standby(instruction: Instruction) -> bool
     ensures { λ r. ⌜ r ≡ endsStandby instruction ⌝ }
 {
     match instruction {
@@ -69,11 +69,11 @@ fn may_end_standby(instruction: Instruction) -> bool
     }
 }
 
-fn ends_standby(standby: bool, instruction: Instruction) -> bool
+fn standby_ends(standby: bool, instruction: Instruction) -> bool
     ensures { λ r. ⌜ r ≡ standby && endsStandby instruction ⌝ }
 {
     if standby {
-        return may_end_standby(instruction);
+        return ends_standby(instruction);
     }
     false
 }
@@ -119,7 +119,7 @@ fn listed(before: Place, after: Place, instruction: Instruction) -> Region
 pub fn instruction_names(before: Control, after: Control, instruction: Instruction) -> Region
     ensures { λ r. ⌜ r ≡ instructionNames before after instruction ⌝ }
 {
-    if ends_standby(before.standby, instruction) {
+    if standby_ends(before.standby, instruction) {
         return Region::Whole;
     }
     let from = before.place;
