@@ -1,2 +1,4 @@
 pub mod Choice
 pub mod Bits
+pub mod Lists
+pub mod Painting

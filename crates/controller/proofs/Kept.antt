@@ -1,10 +1,11 @@
 -- Fresh is valid, and every transfer keeps the ranges and the memories' sizes: place and view are looked at apart.
 use Prim.Native.Nat.{ℕ, _<_}
-use mathlib.Core.Bool.{Bool, not}
+use mathlib.Core.Bool.{Bool, true, false, not}
 use mathlib.Core.Path.{_≡_, refl}
 use mathlib.Core.List.{List}
 use native.Mathlib.Omega.{arith}
-use lib.ListN.{length, length-set}
+use lib.ListN.{length, length-set, replicate}
+use Rattle.base.specs.Choice.{if_then_else_}
 use Rattle.base.proofs.Choice.{either}
 use Rattle.table.specs.declared.Target.{Target}
 use Rattle.table.specs.declared.Target.the-variants.{Text, Glyph, Graphic}
@@ -21,7 +22,7 @@ use Rattle.controller.specs.Memories.{Memories, memories, freshMemories}
 use Rattle.controller.specs.State.{fresh, limit, RowInRange, InRange, Valid, Within}
 use Rattle.controller.specs.Instructions.{withWaiting, pointed, stepped, displayMoved, graphicAddressed, reverseToggled, scrolled, obeyed, clears, cleared, modes}
 use Rattle.controller.specs.Data.{stored, nextCounter, moved, shifts, movedOn, dummyRead}
-use Rattle.controller.specs.Transfers.{executed, written, readOut}
+use Rattle.controller.specs.Transfers.{executed, written, readOut, statusRead}
 use Rattle.controller.proofs.Within.{said-within}
 
 record PlaceIn (p : Place) : Type 0 where
@@ -206,3 +207,7 @@ readOut-in-range m c r =
 pub readOut-valid : (m : Memories) (c : Control) → Valid m c → Valid m (readOut m c .control)
 readOut-valid m c v =
     record { control = readOut-in-range m c (v .control); text = v .text; glyph = v .glyph; graphic = v .graphic }
+
+pub statusRead-valid : (m : Memories) (c : Control) → Valid m c → Valid m (statusRead c .control)
+unfolding statusRead
+statusRead-valid m c v = v

@@ -1,0 +1,119 @@
+-- Laws of the answer: its first four bytes decide it, and a record has them all.
+use Prim.Native.Nat.{ℕ, _≤_, _<_}
+use mathlib.Core.Bool.{Bool, true, false, not}
+use mathlib.Core.List.{List, [], _∷_, _++_}
+use mathlib.Core.Logic.{inl, inr}
+use mathlib.Core.Path.{_≡_, refl, sym, ap, _∙_}
+use native.Mathlib.Omega.{arith}
+use borrow.Author.Tests.{eq-eqb, ne-eqb, le-leb, lt-leb}
+use lib.Dec.{eqb}
+use lib.ListN.{length, getD}
+use types.Run.{OneOf}
+use denote.Enum.Declared.{tagOf}
+use Rattle.base.specs.Choice.{if_then_else_}
+use Rattle.capture.specs.declared.Answer.{Answer}
+use Rattle.capture.specs.declared.Answer.the-variants.{Record, Short, WrongMark, WrongKind, WrongValue, End}
+use Rattle.capture.specs.Record.{marked, known, allowed, answer, number, values}
+use Rattle.capture.specs.Capture.{passed}
+use Rattle.capture.proofs.Answer.{the-type}
+
+pub nothing-left : (c : List ℕ) → length c ≡ 0 → answer c ≡ End
+unfolding answer
+nothing-left c h = simp (eq-eqb (length c) 0 h)
+
+pub one-to-three-left : (c : List ℕ) → (length c ≡ 0 → ⊥) → length c ≤ 3 → answer c ≡ Short
+unfolding answer
+one-to-three-left c h l = simp (ne-eqb (length c) 0 h, le-leb (length c) 3 l)
+
+-- the tests of four bytes
+abbrev pub judged : ℕ → ℕ → ℕ → ℕ → Answer
+judged first second kind value =
+    if not (marked first second) then WrongMark
+    else if not (known kind) then WrongKind
+    else if not (allowed kind value) then WrongValue
+    else Record kind value
+
+pub four-left : (c : List ℕ) → 3 < length c → answer c ≡ judged (getD c 0 0) (getD c 1 0) (getD c 2 0) (getD c 3 0)
+unfolding answer
+four-left c l = simp (ne-eqb (length c) 0 (λ z. omega arith), lt-leb (length c) 3 l)
+
+-- what comes after the first four bytes does not matter
+pub first-four-decide : (a b d e : ℕ) (c : List ℕ) → answer (a ∷ b ∷ d ∷ e ∷ c) ≡ judged a b d e
+first-four-decide a b d e c = four-left (a ∷ b ∷ d ∷ e ∷ c) (omega arith)
+
+pub answer-of-front : (s t : List ℕ) → 4 ≤ length s → answer (s ++ t) ≡ answer s
+answer-of-front [] t h = absurd (omega arith)
+answer-of-front (a ∷ []) t h = absurd (omega arith)
+answer-of-front (a ∷ b ∷ []) t h = absurd (omega arith)
+answer-of-front (a ∷ b ∷ d ∷ []) t h = absurd (omega arith)
+answer-of-front (a ∷ b ∷ d ∷ e ∷ s) t h = first-four-decide a b d e (s ++ t) ∙ sym (first-four-decide a b d e s)
+
+judged-no-end :
+    (t₁ t₂ t₃ : Bool) (kind value : ℕ)
+    → (if not t₁ then WrongMark else if not t₂ then WrongKind else if not t₃ then WrongValue else Record kind value) ≡ End
+    → ⊥
+judged-no-end false t₂ t₃ kind value h = let z : _≡_ {A = ℕ} 0 1 = cc in omega arith
+judged-no-end true false t₃ kind value h = let z : _≡_ {A = ℕ} 0 1 = cc in omega arith
+judged-no-end true true false kind value h = let z : _≡_ {A = ℕ} 0 1 = cc in omega arith
+judged-no-end true true true kind value h = let z : _≡_ {A = ℕ} 0 1 = cc in omega arith
+
+pub four-are-no-end : (a b d e : ℕ) (c : List ℕ) → answer (a ∷ b ∷ d ∷ e ∷ c) ≡ End → ⊥
+four-are-no-end a b d e c h =
+    judged-no-end (marked a b) (known d) (allowed d e) d e (sym (first-four-decide a b d e c) ∙ h)
+
+passed-at-most-four : (a : Answer) → passed a ≤ 4
+passed-at-most-four (Record kind value) = omega arith
+passed-at-most-four Short = omega arith
+passed-at-most-four WrongMark = omega arith
+passed-at-most-four WrongKind = omega arith
+passed-at-most-four WrongValue = omega arith
+passed-at-most-four End = omega arith
+
+pub passed-within : (c : List ℕ) → passed (answer c) ≤ length c
+unfolding answer
+passed-within [] = omega arith
+passed-within (a ∷ []) = omega arith
+passed-within (a ∷ b ∷ []) = omega arith
+passed-within (a ∷ b ∷ d ∷ []) = omega arith
+passed-within (a ∷ b ∷ d ∷ e ∷ c) = omega (arith, passed-at-most-four (answer (a ∷ b ∷ d ∷ e ∷ c)))
+
+pub record-within : (c : List ℕ) {kind value : ℕ} → answer c ≡ Record kind value → 4 ≤ length c
+record-within c h = omega (arith, passed-within c, ap passed h)
+
+-- in the `else` of a `let` that wants a record there is none: the tag is another case's
+pub no-record-in-else : (a : Answer) → OneOf (1 ∷ 2 ∷ 3 ∷ 4 ∷ 5 ∷ []) (tagOf the-type a) → passed a ≡ 0
+no-record-in-else (Record kind value) (inl t) = absurd (omega arith)
+no-record-in-else (Record kind value) (inr (inl t)) = absurd (omega arith)
+no-record-in-else (Record kind value) (inr (inr (inl t))) = absurd (omega arith)
+no-record-in-else (Record kind value) (inr (inr (inr (inl t)))) = absurd (omega arith)
+no-record-in-else (Record kind value) (inr (inr (inr (inr t)))) = absurd (omega arith)
+no-record-in-else Short t = refl
+no-record-in-else WrongMark t = refl
+no-record-in-else WrongKind t = refl
+no-record-in-else WrongValue t = refl
+no-record-in-else End t = refl
+
+-- the answer that has a number and values
+told : ℕ → List ℕ → Answer
+told n [] =
+    if eqb n 6 then Short
+    else if eqb n 7 then WrongMark
+    else if eqb n 8 then WrongKind
+    else if eqb n 9 then WrongValue
+    else End
+told n (kind ∷ []) = End
+told n (kind ∷ value ∷ []) = Record kind value
+told n (kind ∷ value ∷ more ∷ l) = End
+
+told-again : (a : Answer) → told (number a) (values a) ≡ a
+unfolding told
+told-again (Record kind value) = refl
+told-again Short = refl
+told-again WrongMark = refl
+told-again WrongKind = refl
+told-again WrongValue = refl
+told-again End = refl
+
+-- document 01's number and values tell any two answers apart
+pub number-and-values-tell : (a b : Answer) → number a ≡ number b → values a ≡ values b → a ≡ b
+number-and-values-tell a b n v = sym (told-again a) ∙ ap (λ (m : ℕ). told m (values a)) n ∙ ap (told (number b)) v ∙ told-again b

@@ -1,0 +1,95 @@
+-- Laws of a capture read through: a record, then what comes after it; a part of whole records, then the next part.
+use Prim.Native.Nat.{ℕ, _+_, _%_}
+use mathlib.Core.List.{List, [], _∷_, _++_}
+use mathlib.Core.Path.{_≡_, refl, ap, _∙_}
+use native.Mathlib.Nat.{zero-add}
+use native.Mathlib.Omega.{arith}
+use lib.ListN.{length, drop}
+use lib.Seq.{drop-drop}
+use denote.Ref.{RefT, now}
+use Rattle.capture.specs.declared.Answer.{Answer}
+use Rattle.capture.specs.declared.Answer.the-variants.{Record, Short, WrongMark, WrongKind, WrongValue, End}
+use Rattle.capture.specs.Record.{answer}
+use Rattle.capture.specs.Part.{lent, from}
+use Rattle.capture.specs.Capture.{answerAt, passed, rest, Contents, stopped, followed, goesOn, contents}
+use Rattle.capture.proofs.Answers.{answer-of-front, four-are-no-end}
+
+-- what a record leaves is all but its four bytes
+pub rest-after-record : (s : RefT (List ℕ)) {kind value : ℕ} → answer (now s) ≡ Record kind value → rest s ≡ from 4 s
+rest-after-record s h = ap (λ (a : Answer). from (passed a) s) h
+
+-- where there is no record, all is left
+pub rest-where-none : (s : RefT (List ℕ)) → passed (answer (now s)) ≡ 0 → rest s ≡ lent s
+rest-where-none s h = rw h (rw zero-add)
+
+-- reading what the record at a position leaves is reading four bytes further on
+pub answer-after-record : (c : List ℕ) (at : ℕ) → answer (drop 4 (drop at c)) ≡ answerAt c (at + 4)
+answer-after-record c at = ap answer (drop-drop 4 at c)
+
+-- one turn of a loop over the records
+pub contents-turn : (c : List ℕ) → contents c ≡ goesOn (answer c) (contents (drop 4 c))
+unfolding contents answer
+contents-turn [] = refl
+contents-turn (a ∷ []) = refl
+contents-turn (a ∷ b ∷ []) = refl
+contents-turn (a ∷ b ∷ d ∷ []) = refl
+contents-turn (a ∷ b ∷ d ∷ e ∷ c) = refl
+
+pub contents-at-record :
+    (c : List ℕ) (at : ℕ) {kind value : ℕ}
+    → answerAt c at ≡ Record kind value → contents (drop at c) ≡ followed kind value (contents (drop (at + 4) c))
+contents-at-record c at {kind} {value} h =
+    contents-turn (drop at c)
+    ∙ ap (λ (a : Answer). goesOn a (contents (drop 4 (drop at c)))) h
+    ∙ ap (λ (s : List ℕ). followed kind value (contents s)) (drop-drop 4 at c)
+
+stops : (a : Answer) (on : Contents) → passed a ≡ 0 → goesOn a on ≡ stopped a
+stops (Record kind value) on h = absurd (omega arith)
+stops Short on h = refl
+stops WrongMark on h = refl
+stops WrongKind on h = refl
+stops WrongValue on h = refl
+stops End on h = refl
+
+pub contents-at-stop : (c : List ℕ) (at : ℕ) → passed (answerAt c at) ≡ 0 → contents (drop at c) ≡ stopped (answerAt c at)
+contents-at-stop c at h = contents-turn (drop at c) ∙ stops (answerAt c at) _ h
+
+-- the contents of one part, then those of the next where the first was read to its end
+abbrev pub joinedAt : Answer → Contents → Contents → Contents
+joinedAt End x y = record { records = x .records ++ y .records; stop = y .stop }
+joinedAt (Record kind value) x y = x
+joinedAt Short x y = x
+joinedAt WrongMark x y = x
+joinedAt WrongKind x y = x
+joinedAt WrongValue x y = x
+
+abbrev pub joined : Contents → Contents → Contents
+joined x y = joinedAt (x .stop) x y
+
+followed-joined : (a : Answer) (kind value : ℕ) (x y : Contents) → followed kind value (joinedAt a x y) ≡ joinedAt a (followed kind value x) y
+followed-joined End kind value x y = refl
+followed-joined (Record k v) kind value x y = refl
+followed-joined Short kind value x y = refl
+followed-joined WrongMark kind value x y = refl
+followed-joined WrongKind kind value x y = refl
+followed-joined WrongValue kind value x y = refl
+
+goes-on-joined : (a : Answer) (x y : Contents) → (a ≡ End → ⊥) → goesOn a (joined x y) ≡ joined (goesOn a x) y
+goes-on-joined (Record kind value) x y never = followed-joined (x .stop) kind value x y
+goes-on-joined Short x y never = refl
+goes-on-joined WrongMark x y never = refl
+goes-on-joined WrongKind x y never = refl
+goes-on-joined WrongValue x y never = refl
+goes-on-joined End x y never = absurd (never refl)
+
+-- a capture cut into parts of whole records has the records of its parts
+pub contents-of-parts : (s t : List ℕ) → length s % 4 ≡ 0 → contents (s ++ t) ≡ joined (contents s) (contents t)
+unfolding contents answer
+contents-of-parts [] t h = refl
+contents-of-parts (a ∷ []) t h = absurd (omega arith)
+contents-of-parts (a ∷ b ∷ []) t h = absurd (omega arith)
+contents-of-parts (a ∷ b ∷ d ∷ []) t h = absurd (omega arith)
+contents-of-parts (a ∷ b ∷ d ∷ e ∷ s) t h =
+    ap (λ (x : Contents). goesOn (answer (a ∷ b ∷ d ∷ e ∷ (s ++ t))) x) (contents-of-parts s t (omega arith))
+    ∙ ap (λ (x : Answer). goesOn x (joined (contents s) (contents t))) (answer-of-front (a ∷ b ∷ d ∷ e ∷ s) t (omega arith))
+    ∙ goes-on-joined (answer (a ∷ b ∷ d ∷ e ∷ s)) (contents s) (contents t) (four-are-no-end a b d e s)

@@ -1,0 +1,67 @@
+-- Document 01, "Captures": the records of a capture, one after another, and what each leaves of it.
+use Prim.Native.Nat.{ℕ, _+_, min}
+use mathlib.Core.List.{List, [], _∷_}
+use lib.ListN.{length, drop}
+use denote.Ref.{RefT, now}
+use Rattle.capture.specs.declared.Answer.{Answer}
+use Rattle.capture.specs.declared.Answer.the-variants.{Record, Short, WrongMark, WrongKind, WrongValue, End}
+use Rattle.capture.specs.Record.{answer}
+use Rattle.capture.specs.Part.{Part, from}
+
+-- how many bytes are passed: a record's four, or none
+abbrev pub passed : Answer → ℕ
+passed (Record kind value) = 4
+passed Short = 0
+passed WrongMark = 0
+passed WrongKind = 0
+passed WrongValue = 0
+passed End = 0
+
+-- each record read leaves the rest of the caller's own capture, beginning after it; where there is no record, all is left
+abbrev pub rest : RefT (List ℕ) → Part
+rest s = from (passed (answer (now s))) s
+
+-- the caller's own capture from a position on; a position past the end is the end
+abbrev pub partFrom : RefT (List ℕ) → ℕ → Part
+partFrom s at = from (min at (length (now s))) s
+
+-- what stands at a position: at the beginning of the part from there on
+abbrev pub answerAt : List ℕ → ℕ → Answer
+answerAt c at = answer (drop at c)
+
+-- the position after the record at a position; where there is no record, that position
+abbrev pub after : List ℕ → ℕ → ℕ
+after c at = at + passed (answerAt c at)
+
+-- a record's two numbers
+pub record Recorded : Type 0 where
+  pub kind : ℕ
+  pub value : ℕ
+
+-- a capture read through: its records, and what stands where reading stops
+pub record Contents : Type 0 where
+  pub records : List Recorded
+  pub stop : Answer
+
+abbrev pub stopped : Answer → Contents
+stopped a = record { records = []; stop = a }
+
+abbrev pub followed : ℕ → ℕ → Contents → Contents
+followed kind value on = record { records = record { kind = kind; value = value } ∷ on .records; stop = on .stop }
+
+-- a record is followed by what comes after it; anything else stops the reading
+abbrev pub goesOn : Answer → Contents → Contents
+goesOn (Record kind value) on = followed kind value on
+goesOn Short on = stopped Short
+goesOn WrongMark on = stopped WrongMark
+goesOn WrongKind on = stopped WrongKind
+goesOn WrongValue on = stopped WrongValue
+goesOn End on = stopped End
+
+-- by four bytes at a time; fewer are no record
+unfoldable pub contents : List ℕ → Contents
+contents [] = stopped (answer [])
+contents (a ∷ []) = stopped (answer (a ∷ []))
+contents (a ∷ b ∷ []) = stopped (answer (a ∷ b ∷ []))
+contents (a ∷ b ∷ d ∷ []) = stopped (answer (a ∷ b ∷ d ∷ []))
+contents (a ∷ b ∷ d ∷ e ∷ c) = goesOn (answer (a ∷ b ∷ d ∷ e ∷ c)) (contents c)

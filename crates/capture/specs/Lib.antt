@@ -1,0 +1,4 @@
+pub mod Record
+pub mod Part
+pub mod Capture
+pub mod Reader

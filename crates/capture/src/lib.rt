@@ -1,0 +1,177 @@
+// Captures: the record at the beginning of a capture or at a position of it, and a reader that holds the capture it was lent.
+ghost use mathlib.Core.Path.{_≡_};
+ghost use lib.ListN.{drop};
+ghost use Rattle.capture.specs.Record.{marked, known, allowed, answer, number};
+ghost use Rattle.capture.specs.Part.{lent};
+ghost use Rattle.capture.specs.Capture.{passed, rest, partFrom, answerAt, after};
+ghost use Rattle.capture.specs.Reader.{over, found, moved, unread};
+
+// What stands in a capture: a record with its two numbers, or why there is none.
+pub enum Answer {
+    Record { kind: u8, value: u8 },
+    Short,
+    WrongMark,
+    WrongKind,
+    WrongValue,
+    End,
+}
+
+impl Answer {
+    // The refusal's number; 0 for a record and for the end.
+    pub fn number(self) -> u8
+        ensures { λ r. ⌜ r ≡ number self ⌝ }
+    {
+        match self {
+            Answer::Record { kind: _, value: _ } => 0,
+            Answer::Short => 6,
+            Answer::WrongMark => 7,
+            Answer::WrongKind => 8,
+            Answer::WrongValue => 9,
+            Answer::End => 0,
+        }
+    }
+
+    // How many bytes of the capture it takes to move on.
+    fn passed(self) -> usize
+        ensures { λ r. ⌜ r ≡ passed self ⌝ }
+    {
+        match self {
+            Answer::Record { kind: _, value: _ } => 4,
+            Answer::Short => 0,
+            Answer::WrongMark => 0,
+            Answer::WrongKind => 0,
+            Answer::WrongValue => 0,
+            Answer::End => 0,
+        }
+    }
+}
+
+// Whether two bytes are a record's mark.
+fn marked(first: u8, second: u8) -> bool
+    ensures { λ r. ⌜ r ≡ marked first second ⌝ }
+{
+    first == 0xA5 && second == 0x5A
+}
+
+// Which kinds there are.
+fn known(kind: u8) -> bool
+    ensures { λ r. ⌜ r ≡ known kind ⌝ }
+{
+    kind <= 6
+}
+
+// Which values a kind takes.
+fn allowed(kind: u8, value: u8) -> bool
+    ensures { λ r. ⌜ r ≡ allowed kind value ⌝ }
+{
+    match kind {
+        2 | 3 | 5 => value == 0,
+        6 => value <= 1,
+        _ => true,
+    }
+}
+
+// Reads the record at the beginning of a capture, or of the part of one that it is given.
+pub fn read(capture: &[u8]) -> Answer
+    ensures { λ r. ⌜ r ≡ answer (now (capture .entry)) ⌝ }
+{
+    if capture.len() == 0 {
+        return Answer::End;
+    }
+    if capture.len() <= 3 {
+        return Answer::Short;
+    }
+    if !marked(capture[0], capture[1]) {
+        return Answer::WrongMark;
+    }
+    let kind = capture[2];
+    if !known(kind) {
+        return Answer::WrongKind;
+    }
+    let value = capture[3];
+    if !allowed(kind, value) {
+        return Answer::WrongValue;
+    }
+    Answer::Record { kind, value }
+}
+
+// The rest of the caller's own capture, beginning after its first record; all of it where it begins with none.
+pub fn rest(capture: &[u8]) -> &[u8]
+    ensures { λ r. ⌜ lent r ≡ rest (capture .entry) ⌝ }
+{
+    let start = read(capture).passed();
+    &capture[start..]
+}
+
+// The caller's own capture from a position on; a position past the end is the end.
+fn part_from(capture: &[u8], at: usize) -> &[u8]
+    ensures { λ r. ⌜ lent r ≡ partFrom (capture .entry) at ⌝ }
+{
+    let end = capture.len();
+    if end < at {
+        return &capture[end..];
+    }
+    &capture[at..]
+}
+
+// What stands at a position: `read` is given the part that begins there.
+fn read_at(capture: &[u8], at: usize) -> Answer
+    ensures { λ r. ⌜ r ≡ answer (drop at (now (capture .entry))) ⌝ }
+{
+    read(part_from(capture, at))
+}
+
+// The position after the record at a position, or that position where there is no record.
+fn after(capture: &[u8], at: usize) -> usize
+    ensures { λ r. ⌜ r ≡ after (now (capture .entry)) at ⌝ }
+{
+    at + read_at(capture, at).passed()
+}
+
+// A reader holds the capture that it was lent, and a position in it. Its methods only take it apart for a function on
+// the slice and the number, since each is proved by hand.
+pub struct Reader<'a> {
+    capture: &'a [u8],
+    at: usize,
+}
+
+impl<'a> Reader<'a> {
+    // A reader over a capture, at a position of it.
+    pub fn over(capture: &'a [u8], at: usize) -> Reader<'a>
+        ensures { λ r. ⌜ r ≡ over (capture .entry) at ⌝ }
+    {
+        Reader { capture, at }
+    }
+
+    // What stands at the reader's position.
+    pub fn read(self) -> Answer
+        ensures { λ r. ⌜ r ≡ found (self .entry) ⌝ }
+    {
+        read_at(self.capture, self.at)
+    }
+
+    // The reader moved on by the record at its position, or left where it stood.
+    pub fn moved(self) -> Reader<'a>
+        ensures { λ r. ⌜ r ≡ moved (self .entry) ⌝ }
+    {
+        Reader {
+            capture: self.capture,
+            at: after(self.capture, self.at),
+        }
+    }
+
+    // The rest of the capture, from the reader's position on.
+    pub fn unread(self) -> &'a [u8]
+        ensures { λ r. ⌜ lent r ≡ unread (self .entry) ⌝ }
+    {
+        part_from(self.capture, self.at)
+    }
+}
+
+// Reads the record at a position of a capture, by a reader over it. Whoever calls this has a plain slice and a number,
+// and needs no proof by hand.
+pub fn record_at(capture: &[u8], at: usize) -> Answer
+    ensures { λ r. ⌜ r ≡ answerAt (now (capture .entry)) at ⌝ }
+{
+    Reader::over(capture, at).read()
+}

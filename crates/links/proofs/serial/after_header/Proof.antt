@@ -1,0 +1,15 @@
+-- By the read bit, then by the third.
+use borrow.Author.Needs.{needs}
+use Rattle.links.specs.Serial.{afterHeader}
+use Rattle.links.proofs.serial.after_header.Statement.{statement}
+use Rattle.links.proofs.serial.after_header.Tie as tie
+
+pub after-header-spec : {M : Type 1} → statement M
+unfolding afterHeader
+after-header-spec =
+    tie.close
+    (tie.spec
+    (λ c. rw (c .if1 .taken))
+    (λ c. rw (c .before .if1 .left, c .if2 .taken))
+    (λ c κs. search needs)
+    (λ c. rw (c .body .ensures, c .before .before .if1 .left, c .before .if2 .left)))

@@ -1,0 +1,68 @@
+-- Document 01, "Links": the parallel link with DL = 0, where half bytes are paired.
+use Prim.Native.Nat.{ℕ, _+_, _*_, _/_}
+use mathlib.Core.Bool.{Bool, true, false, Bool·beq}
+use Rattle.base.specs.Choice.{if_then_else_}
+use Rattle.base.specs.Bits.{bits3-0}
+use Rattle.links.specs.declared.Transfer.{Transfer}
+use Rattle.links.specs.declared.Transfer.the-variants.{Instruct, Write, Status, Read}
+use Rattle.links.specs.declared.Pairing.{Pairing}
+use Rattle.links.specs.declared.Pairing.the-variants.{Empty, Upper, Lower}
+use Rattle.links.specs.declared.Half.{Half}
+use Rattle.links.specs.declared.Half.the-variants.{Kept, Acts, Answers}
+
+-- the number that bits 7..4 make
+abbrev pub bits7-4 : ℕ → ℕ
+bits7-4 b = b / 16
+
+-- a half byte on the wires: its four bits in 7..4, zeros below
+abbrev pub raised : ℕ → ℕ
+raised half = bits3-0 half * 16
+
+-- the byte of two halves
+abbrev pub joined : ℕ → ℕ → ℕ
+joined upper lower = bits3-0 upper * 16 + bits3-0 lower
+
+-- the kinds: a write is of an instruction (register 0) or of data (1)
+abbrev pub written : Bool → ℕ → Transfer
+written false byte = Instruct byte
+written true byte = Write byte
+
+-- a read is of the status (register 0) or of data (1)
+abbrev pub reading : Bool → Transfer
+reading false = Status
+reading true = Read
+
+-- a write's first half: nothing acts, its upper half is open
+abbrev pub kept : Bool → ℕ → Half
+kept register upper = Kept (Upper register upper)
+
+-- a write acts at its second half byte; bits 7..4 count, upper half first
+unfoldable pub writeHalf : Pairing → Bool → ℕ → Half
+writeHalf Empty register value = kept register (bits7-4 value)
+writeHalf (Upper was upper) register value =
+    if Bool·beq was register then Acts (written register (joined upper (bits7-4 value))) else kept register (bits7-4 value)
+writeHalf (Lower was lower) register value = kept register (bits7-4 value)
+
+-- a read acts at its first; its second half only hands over the low four bits of the same answer
+unfoldable pub readHalf : Pairing → Bool → Half
+readHalf Empty register = Acts (reading register)
+readHalf (Upper was upper) register = Acts (reading register)
+readHalf (Lower was lower) register = if Bool·beq was register then Answers (raised lower) else Acts (reading register)
+
+-- one half-byte transfer: if the second differs from the first in kind, the first is dropped and the new one is a first
+unfoldable pub paired : Pairing → Transfer → Half
+paired pairing (Instruct value) = writeHalf pairing false value
+paired pairing (Write value) = writeHalf pairing true value
+paired pairing Status = readHalf pairing false
+paired pairing Read = readHalf pairing true
+
+-- the reply of a transfer that acted, where it answered this byte: four bits in 7..4
+abbrev pub firstReply : ℕ → ℕ
+firstReply answer = raised (bits7-4 answer)
+
+-- what a transfer that acted leaves open: of a read the low four bits of its answer, of a write nothing
+abbrev pub pairingAfter : Transfer → ℕ → Pairing
+pairingAfter (Instruct byte) answer = Empty
+pairingAfter (Write byte) answer = Empty
+pairingAfter Status answer = Lower false (bits3-0 answer)
+pairingAfter Read answer = Lower true (bits3-0 answer)

@@ -1,0 +1,104 @@
+-- Document 01, "Links": what holds of the three links and the sender, each statement with what it means on the wires.
+-- Each is proved in proofs/, under its own name in small letters (`SentIsReceived` as `sent-is-received`). A controller is
+-- anything that `Controller` describes: its state may hold a frame, counts or time, and no statement looks into it.
+use Prim.Native.Nat.{ℕ, _≤_, _<_}
+use mathlib.Core.Path.{_≡_}
+use mathlib.Core.Bool.{Bool}
+use mathlib.Core.List.{List, [], _∷_, _++_}
+use lib.ListN.{length, take, drop, replicate}
+use Rattle.base.specs.Bits.{bits3-0}
+use Rattle.links.specs.declared.Pairing.the-variants.{Empty, Upper}
+use Rattle.links.specs.declared.Half.the-variants.{Kept, Acts}
+use Rattle.links.specs.declared.Sync.{Sync}
+use Rattle.links.specs.declared.Sync.the-variants.{Body}
+use Rattle.links.specs.declared.Receiver.{Receiver}
+use Rattle.links.specs.declared.Receiver.the-variants.{Outside}
+use Rattle.links.specs.declared.Received.{Received}
+use Rattle.links.specs.declared.Received.the-variants.{Nothing, Byte}
+use Rattle.links.specs.Halves.{bits7-4, joined, written, reading, paired}
+use Rattle.links.specs.Serial.{listened, bytesIn}
+use Rattle.links.specs.Sender.{threeBytes, sent}
+use Rattle.links.specs.Items.{Items, above, bitsOf, SameButBit4, Alike}
+use Rattle.links.specs.Connector.{Controller, act, Replied, byteAt, halfAt, carried, allCarried, does, Way, serial, over, KeepsDl}
+
+-- 0. What `send` leaves at the front of a buffer with room are the three bytes whose bits are the write on the serial wire;
+-- the rest of the buffer is as it was.
+abbrev pub SendLeavesThree : Type 0
+SendLeavesThree =
+    (register : Bool) (byte : ℕ) (buffer : List ℕ) → 3 ≤ length buffer →
+    (take 3 (sent register byte buffer .buffer) ≡ threeBytes register byte)
+    × (drop 3 (sent register byte buffer .buffer) ≡ drop 3 buffer)
+
+module _ {S E : Type 0} (on : Controller S E) where
+  -- 1. Any number of such writes, heard bit by bit from an idle serial link with chip select high, act exactly as the bytes
+  -- given, in order, with any other events between whole writes.
+  abbrev pub SentIsReceived : Type 0
+  SentIsReceived = (s : S) (items : Items E) → over on serial s items ≡ does on s items
+
+  -- The same of every way: over bytes, over half bytes with anything in bits 3..0, over serial. A parallel link takes its
+  -- width from DL, so there the items must leave DL as that link has it.
+  abbrev pub ItemsAct : Type 0
+  ItemsAct = (way : Way) (s : S) (items : Items E) → KeepsDl on way s items → over on way s items ≡ does on s items
+
+  module _ (_≈_ : S → S → Type 0) where
+    infix 4 _≈_
+    -- `≈` stands for "equal apart from DL": writes that are equal except bit 4 of function sets keep it, and events do
+    pub record Respected : Type 0 where
+      pub writes : (s t : S) (register : Bool) (b c : ℕ) →
+          b < 256 → c < 256 → s ≈ t → SameButBit4 register b c → act on s register b ≈ act on t register c
+      pub events : (s t : S) (e : E) → s ≈ t → on .happen s e ≈ on .happen t e
+
+    -- 2. One list reaches one controller state over all links. Two lists that are equal except bit 4 of function sets, each
+    -- over a way whose DL it keeps, begun with links idle in states that are equal apart from DL, end in such states.
+    abbrev pub LinksAgree : Type 0
+    LinksAgree =
+        Respected → (way other : Way) (s t : S) (items others : Items E) →
+        s ≈ t → Alike items others → KeepsDl on way s items → KeepsDl on other t others →
+        over on way s items ≈ over on other t others
+
+-- 3. In any sixteen bits, wherever the receiver stands, at most one byte completes.
+abbrev pub AtMostOneByte : Type 0
+AtMostOneByte = (receiver : Receiver) (bits : List Bool) → length bits ≤ 16 → bytesIn (listened receiver bits .brought) ≤ 1
+
+module _ {S E : Type 0} (on : Controller S E) where
+  -- So all that they do to a controller is what one byte does, or nothing: eight bits in one record have one count.
+  abbrev pub AtMostOneActs : Type 0
+  AtMostOneActs =
+      (receiver : Receiver) (bits : List Bool) → length bits ≤ 16 →
+      (x : Received) × ((s : S) → allCarried on s (listened receiver bits .brought) ≡ carried on s x)
+
+-- the replies and states of a read's two half bytes, beside those of the same read as one byte
+pub record InHalves {S : Type 0} (one first second : Replied S) (later : S) : Type 0 where
+  -- together they hand over the same answer
+  pub together : joined (bits7-4 (first .reply)) (bits7-4 (second .reply)) ≡ one .reply
+  -- each in bits 7..4, zeros below
+  pub zeros : (bits3-0 (first .reply) ≡ 0) × (bits3-0 (second .reply) ≡ 0)
+  -- the first acts as the whole read does
+  pub acts : first .at .state ≡ one .at .state
+  -- the second leaves the controller as it stood by then, and nothing open
+  pub leaves : second .at ≡ record { state = later; link = Empty }
+
+module _ {S E : Type 0} (on : Controller S E) where
+  -- 4. What a read's two half bytes hand over together is what one byte read answers, whatever happens between them.
+  abbrev pub HalvesReadWhole : Type 0
+  HalvesReadWhole =
+      (s later : S) (register : Bool) → on .perform s (reading register) .answer < 256 →
+      let one : Replied S = byteAt on (record { state = s; link = Empty }) (reading register) in
+      let first : Replied S = halfAt on (record { state = s; link = Empty }) (reading register) in
+      let second : Replied S = halfAt on (record { state = later; link = first .at .link }) (reading register) in
+      InHalves one first second later
+
+-- 5. Of a write's two half bytes the first is only kept, and exactly the second acts, with the whole byte.
+abbrev pub SecondHalfActs : Type 0
+SecondHalfActs =
+    (register : Bool) (byte : ℕ) → byte < 256 → (low other : ℕ) →
+    (paired Empty (written register (above (bits7-4 byte) low)) ≡ Kept (Upper register (bits7-4 byte)))
+    × (paired (Upper register (bits7-4 byte)) (written register (above (bits3-0 byte) other)) ≡ Acts (written register byte))
+
+-- 6. Of a write's 24 serial bits exactly the last completes a byte, the one sent. So it is wherever the receiver stands
+-- outside a header with no run of ones; afterwards it stands so again, with no bit seen.
+abbrev pub LastBitActs : Type 0
+LastBitActs =
+    (sync : Sync) (register : Bool) (byte : ℕ) → byte < 256 →
+    listened (Outside 0 sync) (bitsOf (threeBytes register byte))
+    ≡ record { receiver = Outside 0 (Body register 0 0); brought = replicate 23 Nothing ++ (Byte register byte ∷ []) }

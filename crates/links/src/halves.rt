@@ -1,0 +1,127 @@
+// The parallel link with DL = 0: two half bytes of one kind make a transfer.
+use crate::Half;
+use crate::Pairing;
+use crate::Transfer;
+ghost use mathlib.Core.Path.{_≡_};
+ghost use Rattle.links.specs.Halves.{raised, joined, written, reading, kept, writeHalf, readHalf, paired};
+ghost use Rattle.links.specs.Halves.{firstReply, pairingAfter};
+
+// One half-byte transfer, after what is open. Of a write only bits 7..4 count.
+pub fn pair(pairing: Pairing, transfer: Transfer) -> Half
+    ensures { λ r. ⌜ r ≡ paired pairing transfer ⌝ }
+{
+    match transfer {
+        Transfer::Instruct(value) => write_half(pairing, false, value),
+        Transfer::Write(value) => write_half(pairing, true, value),
+        Transfer::Status => read_half(pairing, false),
+        Transfer::Read => read_half(pairing, true),
+    }
+}
+
+// A write's half byte: the second if a first of the same kind is open, else a first.
+fn write_half(pairing: Pairing, register: bool, value: u8) -> Half
+    ensures { λ r. ⌜ r ≡ writeHalf pairing register value ⌝ }
+{
+    match pairing {
+        Pairing::Empty => kept(register, value / 16),
+        Pairing::Upper {
+            register: was,
+            upper,
+        } => {
+            if was == register {
+                return Half::Acts(written(register, joined(upper, value / 16)));
+            }
+            kept(register, value / 16)
+        }
+        Pairing::Lower {
+            register: _,
+            lower: _,
+        } => kept(register, value / 16),
+    }
+}
+
+// A read's half byte: the second if the rest of an answer of the same kind is due, else a first.
+fn read_half(pairing: Pairing, register: bool) -> Half
+    ensures { λ r. ⌜ r ≡ readHalf pairing register ⌝ }
+{
+    match pairing {
+        Pairing::Empty => Half::Acts(reading(register)),
+        Pairing::Upper {
+            register: _,
+            upper: _,
+        } => Half::Acts(reading(register)),
+        Pairing::Lower {
+            register: was,
+            lower,
+        } => {
+            if was == register {
+                return Half::Answers(raised(lower));
+            }
+            Half::Acts(reading(register))
+        }
+    }
+}
+
+fn kept(register: bool, upper: u8) -> Half
+    ensures { λ r. ⌜ r ≡ kept register upper ⌝ }
+{
+    Half::Kept(Pairing::Upper { register, upper })
+}
+
+// The transfer that writes a byte to a register.
+pub fn written(register: bool, byte: u8) -> Transfer
+    ensures { λ r. ⌜ r ≡ written register byte ⌝ }
+{
+    if register {
+        return Transfer::Write(byte);
+    }
+    Transfer::Instruct(byte)
+}
+
+fn reading(register: bool) -> Transfer
+    ensures { λ r. ⌜ r ≡ reading register ⌝ }
+{
+    if register {
+        return Transfer::Read;
+    }
+    Transfer::Status
+}
+
+// The reply to a half byte that acted, where the transfer answered this byte. A write answers 0.
+pub fn first_reply(answer: u8) -> u8
+    ensures { λ r. ⌜ r ≡ firstReply answer ⌝ }
+{
+    raised(answer / 16)
+}
+
+// What a half byte that acted leaves open, where the transfer answered this byte.
+pub fn pairing_after(acted: Transfer, answer: u8) -> Pairing
+    ensures { λ r. ⌜ r ≡ pairingAfter acted answer ⌝ }
+{
+    match acted {
+        Transfer::Instruct(_) => Pairing::Empty,
+        Transfer::Write(_) => Pairing::Empty,
+        Transfer::Status => Pairing::Lower {
+            register: false,
+            lower: answer % 16,
+        },
+        Transfer::Read => Pairing::Lower {
+            register: true,
+            lower: answer % 16,
+        },
+    }
+}
+
+// The byte of two halves.
+fn joined(upper: u8, lower: u8) -> u8
+    ensures { λ r. ⌜ r ≡ joined upper lower ⌝ }
+{
+    upper % 16 * 16 + lower % 16
+}
+
+// A half byte as it stands on the wires.
+pub(crate) fn raised(half: u8) -> u8
+    ensures { λ r. ⌜ r ≡ raised half ⌝ }
+{
+    half % 16 * 16
+}
