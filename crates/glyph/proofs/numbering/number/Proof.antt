@@ -1,0 +1,20 @@
+-- By the ends of the leads and of the trails.
+use borrow.Author.Needs.{needs}
+use borrow.Author.Tests.{le-leb, lt-leb}
+use Rattle.glyph.specs.Numbering.{numberOf}
+use Rattle.glyph.proofs.numbering.number.Statement.{statement}
+use Rattle.glyph.proofs.numbering.number.Tie as tie
+
+pub number-spec : {M : Type 1} → statement M
+unfolding numberOf
+number-spec =
+    tie.close
+    (tie.spec
+    (λ c. simp (lt-leb _ _ (c .if1 .taken)))
+    (λ c. simp (le-leb _ _ (c .before .if1 .left), lt-leb _ _ (c .if2 .taken)))
+    (λ c. simp (le-leb _ _ (c .before .before .if1 .left), le-leb _ _ (c .before .if2 .left), lt-leb _ _ (c .if3 .taken)))
+    (λ c. search needs)
+    (λ c. search needs)
+    (λ c. search needs)
+    (λ c. search needs)
+    (λ c. simp (le-leb _ _ (c .before .before .if1 .left), le-leb _ _ (c .before .if2 .left), le-leb _ _ (c .if3 .left))))

@@ -1,0 +1,26 @@
+// What a text word shows, after document 01's "The picture", in three layers that know nothing of one another's rules:
+// a code's number in the full font; from it, and from the length of that font, what the cell shows; and from that the dots of a glyph row.
+
+pub mod dots;
+pub mod lookup;
+pub mod numbering;
+
+// The number that a code of two bytes has in the full font, or none.
+pub enum Code {
+    Unnumbered,
+    Number(u16),
+}
+
+// What a cell shows.
+pub enum Content {
+    Image(u8),
+    Full(u16),
+    Halves { high: u8, low: u8 },
+    Blank,
+}
+
+// The two bytes of one row of a cell.
+pub struct Pair {
+    pub left: u8,
+    pub right: u8,
+}

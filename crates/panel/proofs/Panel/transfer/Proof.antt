@@ -1,0 +1,13 @@
+-- What the call on lent memories leaves, put together.
+use borrow.Author.Needs.{needs}
+use Rattle.panel.proofs.Kept.{left-valid}
+use Rattle.panel.proofs.Panel.transfer.Statement.{statement}
+use Rattle.panel.proofs.Panel.transfer.Tie as tie
+
+pub transfer-spec : {M : Type 1} → statement M
+transfer-spec =
+    tie.close
+    (tie.spec
+    (λ c κs. search needs)
+    (λ c. search needs)
+    (λ c. (c .before .before .before .transfer .ensures .0, left-valid _ _ _ _ _ _ _ (c .before .before .before .transfer .ensures .0) (c .before .before .before .before .before .before .before .before .before .before .before .before .before .before .before .pre))))

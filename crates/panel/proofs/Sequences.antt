@@ -1,0 +1,27 @@
+-- Over any sequence of calls, fonts and phase held, the frame goes on showing the picture.
+use Prim.Native.Nat.{ℕ}
+use mathlib.Core.List.{List, [], _∷_}
+use mathlib.Core.Path.{_≡_, refl, _∙_, ap}
+use Rattle.picture.specs.Picture.{Seen, picture}
+use Rattle.panel.specs.State.{State, Valid}
+use Rattle.panel.specs.Calls.{Call, called, Stands, after}
+use Rattle.panel.proofs.Kept.{called-valid}
+use Rattle.panel.proofs.Repainted.{called-shows}
+
+pub after-valid : (e : Seen) (s : State) (frame : List ℕ) (calls : List Call) → Valid s → Valid (after e s frame calls .state)
+unfolding after
+after-valid e s frame [] v = v
+after-valid e s frame (call ∷ calls) v =
+    after-valid e (called e s frame call .state) (called e s frame call .frame) calls (called-valid e s frame call v)
+
+-- (C)
+pub after-shows :
+    (e : Seen) (s : State) (frame : List ℕ) (calls : List Call)
+    → Valid s
+    → frame ≡ picture e (s .memories) (s .control)
+    → after e s frame calls .frame ≡ picture e (after e s frame calls .state .memories) (after e s frame calls .state .control)
+unfolding after
+after-shows e s frame [] v h = h
+after-shows e s frame (call ∷ calls) v h =
+    after-shows e (called e s frame call .state) (called e s frame call .frame) calls (called-valid e s frame call v)
+    (rw h (called-shows e s call v))

@@ -1,0 +1,205 @@
+// The calls by value: the panel goes in, and the next one is handed on. Each takes the memories into locals once, lends them to the
+// call of the same name in `lent`, and puts the state together once.
+use crate::Made;
+use crate::Outcome;
+use crate::Panel;
+use crate::Pin;
+use crate::lent;
+use controller::Control;
+use links::Transfer;
+ghost use mathlib.Core.Path.{_≡_};
+ghost use Rattle.picture.specs.Picture.{seen};
+ghost use Rattle.picture.specs.Refusals.{leaves, drawn};
+ghost use Rattle.panel.specs.State.{stateOf, memoriesOf, freshState, Valid};
+ghost use Rattle.panel.specs.Calls.{transfer, bit, selectLow, reset, called, handed};
+
+impl Panel {
+    // A panel as it is when it has just been made.
+    pub fn fresh(made: Made) -> Panel
+        ensures { λ r. ⌜ stateOf r ≡ freshState (made .parallel) ⌝ }
+        ensures valid { λ r. ⌜ Valid (stateOf r) ⌝ }
+    {
+        Panel {
+            text: [0x20u8; 128],
+            glyph: [0u8; 128],
+            graphic: [0u8; 2048],
+            control: Control::fresh(),
+            link: links::idle(made.parallel),
+        }
+    }
+
+    // A transfer of the parallel link.
+    pub fn transfer(
+        self,
+        given: Transfer,
+        frame: &mut [u8],
+        half: &[u8],
+        full: &[u8],
+        phase: bool,
+    ) -> Outcome
+        requires { ⌜ Valid (stateOf self) ⌝ }
+        ensures { λ r. ⌜ handed r (now (frame .exit)) ≡ called (seen half full phase) (stateOf self) (now (frame .entry)) (transfer given) ⌝ }
+        ensures valid { λ r. ⌜ Valid (stateOf (r .panel)) ⌝ }
+    {
+        let mut text = self.text;
+        let mut glyph = self.glyph;
+        let mut graphic = self.graphic;
+        let now = self.control;
+        let at = self.link;
+        let answer = lent::transfer(
+            &mut text,
+            &mut glyph,
+            &mut graphic,
+            now,
+            at,
+            given,
+            frame,
+            half,
+            full,
+            phase,
+        );
+        let control = answer.control;
+        let link = answer.link;
+        let panel = Panel {
+            text,
+            glyph,
+            graphic,
+            control,
+            link,
+        };
+        Outcome {
+            panel,
+            number: answer.number,
+            reply: answer.reply,
+            count: answer.count,
+        }
+    }
+
+    // One bit of the serial link, with chip select high.
+    pub fn bit(
+        self,
+        given: bool,
+        frame: &mut [u8],
+        half: &[u8],
+        full: &[u8],
+        phase: bool,
+    ) -> Outcome
+        requires { ⌜ Valid (stateOf self) ⌝ }
+        ensures { λ r. ⌜ handed r (now (frame .exit)) ≡ called (seen half full phase) (stateOf self) (now (frame .entry)) (bit given) ⌝ }
+        ensures valid { λ r. ⌜ Valid (stateOf (r .panel)) ⌝ }
+    {
+        let mut text = self.text;
+        let mut glyph = self.glyph;
+        let mut graphic = self.graphic;
+        let now = self.control;
+        let at = self.link;
+        let answer = lent::bit(
+            &mut text,
+            &mut glyph,
+            &mut graphic,
+            now,
+            at,
+            given,
+            frame,
+            half,
+            full,
+            phase,
+        );
+        let control = answer.control;
+        let link = answer.link;
+        let panel = Panel {
+            text,
+            glyph,
+            graphic,
+            control,
+            link,
+        };
+        Outcome {
+            panel,
+            number: answer.number,
+            reply: answer.reply,
+            count: answer.count,
+        }
+    }
+
+    // Chip select low on the serial link.
+    pub fn select_low(self, frame: &mut [u8], half: &[u8], full: &[u8], phase: bool) -> Outcome
+        requires { ⌜ Valid (stateOf self) ⌝ }
+        ensures { λ r. ⌜ handed r (now (frame .exit)) ≡ called (seen half full phase) (stateOf self) (now (frame .entry)) selectLow ⌝ }
+        ensures valid { λ r. ⌜ Valid (stateOf (r .panel)) ⌝ }
+    {
+        let text = self.text;
+        let glyph = self.glyph;
+        let graphic = self.graphic;
+        let now = self.control;
+        let at = self.link;
+        let answer = lent::select_low(&text, &glyph, &graphic, now, at, frame, half, full, phase);
+        let control = answer.control;
+        let link = answer.link;
+        let panel = Panel {
+            text,
+            glyph,
+            graphic,
+            control,
+            link,
+        };
+        Outcome {
+            panel,
+            number: answer.number,
+            reply: answer.reply,
+            count: answer.count,
+        }
+    }
+
+    // Reset with the interface pin, on either link.
+    pub fn reset(self, pin: Pin, frame: &mut [u8], half: &[u8], full: &[u8], phase: bool) -> Outcome
+        requires { ⌜ Valid (stateOf self) ⌝ }
+        ensures { λ r. ⌜ handed r (now (frame .exit)) ≡ called (seen half full phase) (stateOf self) (now (frame .entry)) (reset (pin .parallel)) ⌝ }
+        ensures valid { λ r. ⌜ Valid (stateOf (r .panel)) ⌝ }
+    {
+        let mut text = self.text;
+        let mut glyph = self.glyph;
+        let mut graphic = self.graphic;
+        let now = self.control;
+        let at = self.link;
+        let answer = lent::reset(
+            &mut text,
+            &mut glyph,
+            &mut graphic,
+            now,
+            at,
+            pin,
+            frame,
+            half,
+            full,
+            phase,
+        );
+        let control = answer.control;
+        let link = answer.link;
+        let panel = Panel {
+            text,
+            glyph,
+            graphic,
+            control,
+            link,
+        };
+        Outcome {
+            panel,
+            number: answer.number,
+            reply: answer.reply,
+            count: answer.count,
+        }
+    }
+
+    // The whole picture, drawn afresh into the frame; answers the refusal number.
+    pub fn draw(self, frame: &mut [u8], half: &[u8], full: &[u8], phase: bool) -> u8
+        requires { ⌜ Valid (stateOf self) ⌝ }
+        ensures { λ r. ⌜ leaves r (now (frame .exit)) ≡ drawn (seen half full phase) (memoriesOf self) (self .control) (now (frame .entry)) ⌝ }
+    {
+        let text = self.text;
+        let glyph = self.glyph;
+        let graphic = self.graphic;
+        let control = self.control;
+        picture::draw::draw(&text, &glyph, &graphic, control, frame, half, full, phase)
+    }
+}

@@ -1,0 +1,6 @@
+pub mod Parts
+pub mod Unread
+pub mod Strips
+pub mod CellRows
+pub mod Accepted
+pub mod Masks

@@ -1,0 +1,112 @@
+-- Document 01, "The picture": 32 rows of 32 bytes, bit 7 leftmost. Each byte is given by its row and column, in the document's order:
+-- glyph, cursor, blink, line reverse, graphic, display.
+use Prim.Native.Nat.{ℕ, _+_, _*_, _-_, _/_, _%_}
+use mathlib.Core.Bool.{Bool, true, false, not, _&&_, _||_}
+use mathlib.Core.List.{List}
+use lib.ListN.{length, getD}
+use lib.Dec.{eqb}
+use lib.Bits.{bitXor}
+use denote.Ref.{now}
+use Rattle.base.specs.Choice.{if_then_else_}
+use Rattle.base.specs.Lists.{upto}
+use Rattle.controller.specs.declared.Place.{Place}
+use Rattle.controller.specs.declared.View.{View}
+use Rattle.controller.specs.declared.Control.{Control}
+use Rattle.controller.specs.Memories.{Memories, Lent, wordPlace, graphicPlace}
+use Rattle.controller.specs.Data.{isText}
+use Rattle.controller.specs.Glass.{shownRow, shownWord}
+use Rattle.glyph.specs.declared.Content.{Content}
+use Rattle.glyph.specs.declared.Pair.{Pair}
+use Rattle.glyph.specs.Lookup.{contentOf}
+use Rattle.glyph.specs.Dots.{dotsOf}
+use Rattle.picture.specs.declared.Effects.{Effects}
+
+-- what the picture is seen with: the lent fonts and the blink phase
+pub record Seen : Type 0 where
+  pub half : List ℕ
+  pub full : List ℕ
+  pub phase : Bool
+
+-- the same, as a contract names what it was lent
+abbrev pub seen : Lent → Lent → Bool → Seen
+seen half full phase = record { half = now (half .entry); full = now (full .entry); phase = phase }
+
+-- a column is the left byte of its cell or the right one
+abbrev pub right : ℕ → Bool
+right column = eqb (column % 2) 1
+
+-- what a text word shows, with a full font of `size` bytes
+unfoldable pub wordContent : ℕ → List ℕ → ℕ → Content
+wordContent size text word = contentOf (getD text (wordPlace word false) 0) (getD text (wordPlace word true) 0) size
+
+-- cell k shows its text word, glyph row s mod 16
+unfoldable pub cellByte : Seen → Memories → View → ℕ → ℕ → ℕ
+cellByte e m v row column =
+    dotsOf (e .half) (e .full) (m .glyph) (wordContent (length (e .full)) (m .text) (shownWord v row (column / 2)))
+    (shownRow v row % 16) (right column)
+
+-- graphic row s, unshifted
+unfoldable pub graphicByte : Memories → View → ℕ → ℕ → ℕ
+graphicByte m v row column = getD (m .graphic) (graphicPlace (shownRow v row) (column / 2) (right column)) 0
+
+-- at the counter's word, if target is text
+unfoldable pub atCounter : Place → ℕ → Bool
+atCounter p word = isText (p .target) && eqb word (p .counter)
+
+-- on memory row s, in the cell at the counter (here) or in another: cursor sets glyph row 15 and blink with phase 1 inverts the cell;
+-- line reverse inverts; graphic if G; dark if display 0 or standby
+unfoldable pub effectsOf : Bool → Control → ℕ → Bool → Effects
+effectsOf phase c s here =
+    record {
+      cursor = here && (c .shown .cursor && eqb (s % 16) 15);
+      blink = here && (c .shown .blink && phase);
+      reverse = getD (c .view .reversed) (s / 16) false;
+      graphic = c .function .g;
+      dark = not (c .shown .display) || c .standby;
+    }
+
+abbrev pub effectsAt : Bool → Control → ℕ → ℕ → Effects
+effectsAt phase c row cell =
+    effectsOf phase c (shownRow (c .view) row) (atCounter (c .place) (shownWord (c .view) row cell))
+
+-- sets
+abbrev pub filled : Bool → ℕ → ℕ
+filled on byte = if on then 0xFF else byte
+
+-- inverts
+abbrev pub inverted : Bool → ℕ → ℕ
+inverted on byte = if on then 0xFF - byte else byte
+
+-- exclusive or
+abbrev pub overlaid : Bool → ℕ → ℕ → ℕ
+overlaid on dots byte = if on then bitXor byte dots else byte
+
+-- all zero
+abbrev pub darkened : Bool → ℕ → ℕ
+darkened on byte = if on then 0x00 else byte
+
+-- then cursor, blink, line reverse, the graphic byte, and display 0 or standby, each over what came before
+unfoldable pub shaded : Effects → ℕ → ℕ → ℕ
+shaded e cell dots =
+    darkened (e .dark) (overlaid (e .graphic) dots (inverted (e .reverse) (inverted (e .blink) (filled (e .cursor) cell))))
+
+-- byte `column` of row `row` of the glass
+unfoldable pub byteAt : Seen → Memories → Control → ℕ → ℕ → ℕ
+byteAt e m c row column =
+    shaded (effectsAt (e .phase) c row (column / 2)) (cellByte e m (c .view) row column) (graphicByte m (c .view) row column)
+
+-- a frame's place i is row i / 32, column i mod 32 of the glass
+abbrev pub atPlace : {A : Type 0} → (ℕ → ℕ → A) → ℕ → A
+atPlace f i = f (i / 32) (i % 32)
+
+-- 32 rows of 32 bytes
+unfoldable pub picture : Seen → Memories → Control → List ℕ
+picture e m c = upto 1024 (atPlace (byteAt e m c))
+
+-- the two bytes of one row of a cell
+abbrev pub cellPair : Seen → Memories → Control → ℕ → ℕ → Pair
+cellPair e m c row cell = record { left = byteAt e m c row (2 * cell); right = byteAt e m c row (2 * cell + 1) }
+
+-- and their places
+abbrev pub inCellRow : ℕ → ℕ → ℕ → ℕ → Bool
+inCellRow row cell r column = eqb r row && eqb (column / 2) cell

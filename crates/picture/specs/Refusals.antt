@@ -1,0 +1,33 @@
+-- Document 01, "Refusal numbers": 1 to 3, of the lengths that a call is lent; and drawing afresh, which has no others.
+use Prim.Native.Nat.{ℕ, _%_}
+use mathlib.Core.Bool.{not, _||_}
+use mathlib.Core.List.{List}
+use lib.ListN.{length}
+use lib.Dec.{eqb, ltb}
+use Rattle.base.specs.Choice.{if_then_else_}
+use Rattle.controller.specs.declared.Control.{Control}
+use Rattle.controller.specs.Memories.{Memories}
+use Rattle.picture.specs.Picture.{Seen, picture}
+
+-- 1: frame not 1,024 bytes; 2: half font not 2,048 bytes; 3: full font not a multiple of 32, or over 267,264; 0: accepted
+unfoldable pub refusalOf : ℕ → ℕ → ℕ → ℕ
+refusalOf frame half full =
+    if not (eqb frame 1024) then 1
+    else if not (eqb half 2048) then 2
+    else if not (eqb (full % 32) 0) || ltb 267264 full then 3
+    else 0
+
+-- what a drawing leaves: its number and the frame
+pub record Drawn : Type 0 where
+  pub number : ℕ
+  pub frame : List ℕ
+
+abbrev pub leaves : ℕ → List ℕ → Drawn
+leaves number frame = record { number = number; frame = frame }
+
+-- a refusal returns its number and changes no buffer; an accepted call answers 0, and the frame is the picture
+abbrev pub drawnBy : ℕ → Seen → Memories → Control → List ℕ → Drawn
+drawnBy number e m c frame = if eqb number 0 then leaves 0 (picture e m c) else leaves number frame
+
+unfoldable pub drawn : Seen → Memories → Control → List ℕ → Drawn
+drawn e m c frame = drawnBy (refusalOf (length frame) (length (e .half)) (length (e .full))) e m c frame

@@ -1,0 +1,67 @@
+-- Document 01, "The picture", in the form of the code: what the cells of one row of the glass have in common, and a byte by that.
+-- proofs/Strips.antt shows that it is the byte of the picture.
+use Prim.Native.Nat.{ℕ, _+_, _*_, _/_, _%_, _<_, _≤_}
+use mathlib.Core.Bool.{Bool, true, false}
+use mathlib.Core.List.{List}
+use lib.ListN.{length, getD, set}
+use lib.Dec.{eqb}
+use Rattle.base.specs.Choice.{if_then_else_}
+use Rattle.controller.specs.declared.Place.{Place}
+use Rattle.controller.specs.declared.Control.{Control}
+use Rattle.controller.specs.Memories.{Memories, half}
+use Rattle.controller.specs.Data.{isText}
+use Rattle.controller.specs.Glass.{shownRow}
+use Rattle.glyph.specs.Dots.{dotsOf, both}
+use Rattle.glyph.specs.declared.Pair.{Pair}
+use Rattle.picture.specs.declared.Effects.{Effects}
+use Rattle.picture.specs.declared.Strip.{Strip}
+use Rattle.picture.specs.Picture.{wordContent, effectsOf, shaded}
+
+-- the counter's word, or 64, which no cell shows
+abbrev pub counterWord : Place → ℕ
+counterWord p = if isText (p .target) then p .counter else 64
+
+-- on memory row s
+abbrev pub stripOn : Bool → Control → ℕ → Strip
+stripOn phase c s =
+    record {
+      first = 16 * (s / 16);
+      shift = c .view .shift;
+      y = s % 16;
+      start = 32 * s;
+      counter = counterWord (c .place);
+      marked = effectsOf phase c s true;
+      plain = effectsOf phase c s false;
+    }
+
+-- at row `row` of the glass
+unfoldable pub stripAt : Bool → Control → ℕ → Strip
+stripAt phase c row = stripOn phase c (shownRow (c .view) row)
+
+-- the text word of a cell
+abbrev pub stripWord : Strip → ℕ → ℕ
+stripWord s cell = s .first + (cell + s .shift) % 16
+
+-- what is done to the dots of a word
+abbrev pub stripEffects : Strip → ℕ → Effects
+stripEffects s word = if eqb word (s .counter) then s .marked else s .plain
+
+-- the left byte of a cell (low = false), or the right one
+unfoldable pub stripByte : List ℕ → List ℕ → Memories → Strip → ℕ → Bool → ℕ
+stripByte halves fulls m s cell low =
+    shaded (stripEffects s (stripWord s cell))
+    (dotsOf halves fulls (m .glyph) (wordContent (length fulls) (m .text) (stripWord s cell)) (s .y) low)
+    (getD (m .graphic) (s .start + 2 * cell + half low) 0)
+
+unfoldable pub stripPair : List ℕ → List ℕ → Memories → Strip → ℕ → Pair
+stripPair halves fulls m s cell = both (stripByte halves fulls m s cell)
+
+-- the two bytes stored at a place of a frame and at the next
+abbrev pub stored : List ℕ → ℕ → Pair → List ℕ
+stored frame place pair = set (set frame place (pair .left)) (place + 1) (pair .right)
+
+-- a strip whose words, glyph row and graphic row are there
+pub record OnGlass (s : Strip) : Type 0 where
+  pub first : s .first + 16 ≤ 64
+  pub y : s .y < 16
+  pub start : s .start + 32 ≤ 2048

@@ -1,0 +1,29 @@
+// The whole picture, drawn afresh.
+use crate::paint::paint_whole;
+use crate::refusals::refusal;
+use controller::Control;
+ghost use mathlib.Core.Path.{_≡_};
+ghost use Rattle.controller.specs.Memories.{before};
+ghost use Rattle.picture.specs.Picture.{seen};
+ghost use Rattle.picture.specs.Refusals.{leaves, drawn};
+
+// Draws into the frame and answers 0, or answers the refusal's number and leaves the frame as it was.
+pub fn draw(
+    text: &[u8; 128],
+    glyph: &[u8; 128],
+    graphic: &[u8; 2048],
+    control: Control,
+    frame: &mut [u8],
+    half: &[u8],
+    full: &[u8],
+    phase: bool,
+) -> u8
+    ensures { λ r. ⌜ leaves r (now (frame .exit)) ≡ drawn (seen half full phase) (before text glyph graphic) control (now (frame .entry)) ⌝ }
+{
+    let number = refusal(frame.len(), half.len(), full.len());
+    if number != 0 {
+        return number;
+    }
+    paint_whole(text, glyph, graphic, control, frame, half, full, phase);
+    0
+}

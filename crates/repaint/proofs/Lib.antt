@@ -1,0 +1,12 @@
+pub mod Shows
+pub mod Bytes
+pub mod Unnamed
+pub mod Counts
+pub mod Records
+pub mod Paintings
+pub mod CellTurns
+pub mod TwoCells
+pub mod GlyphTurns
+pub mod GraphicPlace
+pub mod RegionSets
+pub mod RegionsWithin

@@ -1,0 +1,37 @@
+-- What each painter leaves is what its region asks for.
+use Prim.Native.Nat.{ℕ}
+use mathlib.Core.Bool.{Bool}
+use mathlib.Core.List.{List}
+use mathlib.Core.Path.{_≡_, refl, _∙_, sym}
+use lib.ListN.{length}
+use Rattle.base.proofs.Painting.{painted-all}
+use Rattle.controller.specs.declared.Control.{Control}
+use Rattle.controller.specs.declared.Region.the-variants.{Nothing, Whole, GlyphHalf, GraphicHalf}
+use Rattle.controller.specs.Memories.{Memories}
+use Rattle.controller.specs.Named.{showsGlyph, showsGraphic, covers}
+use Rattle.picture.specs.Picture.{Seen, byteAt, atPlace, picture}
+use Rattle.repaint.specs.Repaint.{named, repainted, countNamed, painting, paints, repaint}
+use Rattle.repaint.proofs.Counts.{count-whole}
+use Rattle.repaint.proofs.Records.{painting-both}
+use Rattle.repaint.proofs.Paintings.{paints-none}
+
+module _ (e : Seen) (m : Memories) (c : Control) (f : List ℕ) where
+  pub nothing-painted : length f ≡ 1024 → painting 0 f ≡ repaint e m c Nothing f
+  unfolding repainted countNamed named covers
+  nothing-painted size = paints-none (atPlace (covers (c .view) (m .text) Nothing)) f size (atPlace (byteAt e m c)) (λ i h. refl)
+
+  pub whole-painted : (g : List ℕ) → length f ≡ 1024 → g ≡ picture e m c → painting 1024 g ≡ repaint e m c Whole f
+  unfolding repainted countNamed named covers picture
+  whole-painted g size h =
+      painting-both (sym (count-whole (c .view) (m .text)))
+      (h ∙ sym (painted-all (atPlace (covers (c .view) (m .text) Whole)) (atPlace (byteAt e m c)) 1024 f size (λ i l. refl)))
+
+  pub glyph-painted :
+      (word : ℕ) (low : Bool) → paints (atPlace (showsGlyph (c .view) (m .text) word low)) (atPlace (byteAt e m c)) f ≡ repaint e m c (GlyphHalf word low) f
+  unfolding repainted countNamed named covers
+  glyph-painted word low = refl
+
+  pub graphic-painted :
+      (y k : ℕ) (low : Bool) → paints (atPlace (showsGraphic (c .view) y k low)) (atPlace (byteAt e m c)) f ≡ repaint e m c (GraphicHalf y k low) f
+  unfolding repainted countNamed named covers
+  graphic-painted y k low = refl

@@ -1,0 +1,69 @@
+-- Two cells: one and the same, or with no byte in common, since a place lies only in the cell of the word that it shows.
+use Prim.Native.Nat.{ℕ, _+_, _/_, _%_}
+use mathlib.Core.Bool.{Bool, true, false, _&&_, _||_, and-false, true≢false}
+use mathlib.Core.List.{List}
+use mathlib.Core.Path.{_≡_, refl, _∙_, sym, ap}
+use native.Mathlib.Omega.{arith}
+use lib.Dec.{eqb}
+use borrow.Author.Tests.{eqb-true, eqb-false}
+use Rattle.base.proofs.Tests.{never, and-both}
+use Rattle.controller.specs.declared.View.{View}
+use Rattle.controller.specs.declared.Control.{Control}
+use Rattle.controller.specs.declared.Cell.{Cell}
+use Rattle.controller.specs.declared.Cell.the-variants.{Nowhere, Word}
+use Rattle.controller.specs.declared.Region.the-variants.{Cells}
+use Rattle.controller.specs.Memories.{Memories}
+use Rattle.controller.specs.Glass.{shownWord}
+use Rattle.controller.specs.Named.{inCell, inSomeCell, covers}
+use Rattle.picture.specs.Picture.{Seen, byteAt, atPlace}
+use Rattle.repaint.specs.Repaint.{named, repainted, countNamed, painting, paints, repaint, sameCell}
+use Rattle.repaint.proofs.Shows.{in-cell-shows}
+use Rattle.repaint.proofs.Paintings.{paints-same, paints-both}
+
+or-same : (p : Bool) → p ≡ (p || p)
+or-same true = refl
+or-same false = refl
+
+one-cell :
+    (v : View) (a b : Cell) (row column : ℕ)
+    → sameCell a b ≡ true
+    → inSomeCell v a row column ≡ (inSomeCell v a row column || inSomeCell v b row column)
+one-cell v Nowhere b row column e = absurd (true≢false (sym e))
+one-cell v (Word x) Nowhere row column e = absurd (true≢false (sym e))
+one-cell v (Word x) (Word y) row column e =
+    or-same (inCell v x row column) ∙ ap (λ (w : ℕ). inCell v x row column || inCell v w row column) (eqb-true x y e)
+
+apart-cells :
+    (v : View) (a b : Cell) (row column : ℕ)
+    → sameCell a b ≡ false
+    → (inSomeCell v a row column && inSomeCell v b row column) ≡ false
+apart-cells v Nowhere b row column e = refl
+apart-cells v (Word x) Nowhere row column e = and-false (inCell v x row column)
+apart-cells v (Word x) (Word y) row column e =
+    never _
+    (λ h.
+    let q = and-both (inCell v x row column) (inCell v y row column) h in
+    let first = eqb-true (shownWord v row (column / 2)) x (sym (in-cell-shows v x row column) ∙ q .0) in
+    let second = eqb-true (shownWord v row (column / 2)) y (sym (in-cell-shows v y row column) ∙ q .1) in
+    eqb-false x y e (sym first ∙ second))
+
+module _ (e : Seen) (m : Memories) (c : Control) (a b : Cell) (f : List ℕ) where
+  pub cells-as-one :
+      (n : ℕ) (g : List ℕ)
+      → sameCell a b ≡ true
+      → painting n g ≡ paints (atPlace (inSomeCell (c .view) a)) (atPlace (byteAt e m c)) f
+      → painting n g ≡ repaint e m c (Cells a b) f
+  unfolding repainted countNamed named covers
+  cells-as-one n g s h =
+      h ∙ paints-same (atPlace (inSomeCell (c .view) a)) _ (atPlace (byteAt e m c)) f (λ i. one-cell (c .view) a b (i / 32) (i % 32) s)
+
+  pub cells-as-two :
+      (n k : ℕ) (g h : List ℕ)
+      → sameCell a b ≡ false
+      → painting n g ≡ paints (atPlace (inSomeCell (c .view) a)) (atPlace (byteAt e m c)) f
+      → painting k h ≡ paints (atPlace (inSomeCell (c .view) b)) (atPlace (byteAt e m c)) g
+      → painting (n + k) h ≡ repaint e m c (Cells a b) f
+  unfolding repainted countNamed named covers
+  cells-as-two n k g h s first second =
+      paints-both (atPlace (inSomeCell (c .view) a)) (atPlace (inSomeCell (c .view) b)) (atPlace (byteAt e m c)) f g h n k
+      (λ i. apart-cells (c .view) a b (i / 32) (i % 32) s) first second

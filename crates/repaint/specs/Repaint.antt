@@ -1,0 +1,62 @@
+-- Document 01, "Bytes named for repaint": painting gives each named byte the value it has in the new picture and keeps all others,
+-- also where the frame held something else before; the answer counts distinct bytes rewritten, whether or not their content differs.
+use Prim.{Unit}
+use Prim.Native.Nat.{ℕ, _<_}
+use mathlib.Core.Bool.{Bool, false}
+use mathlib.Core.List.{List}
+use lib.Dec.{eqb}
+use Rattle.base.specs.Painting.{painted, count}
+use Rattle.controller.specs.declared.Control.{Control}
+use Rattle.controller.specs.declared.Cell.{Cell}
+use Rattle.controller.specs.declared.Cell.the-variants.{Nowhere, Word}
+use Rattle.controller.specs.declared.Region.{Region}
+use Rattle.controller.specs.declared.Region.the-variants.{Nothing, Whole, Cells, GlyphHalf, GraphicHalf}
+use Rattle.controller.specs.Memories.{Memories}
+use Rattle.controller.specs.Named.{covers}
+use Rattle.picture.specs.Picture.{Seen, byteAt, atPlace}
+
+-- the places of a region, in the state after the transfer
+unfoldable pub named : Memories → Control → Region → ℕ → Bool
+named m c region = atPlace (covers (c .view) (m .text) region)
+
+-- the frame after it was repainted
+unfoldable pub repainted : Seen → Memories → Control → Region → List ℕ → List ℕ
+repainted e m c region frame = painted (named m c region) (atPlace (byteAt e m c)) frame
+
+-- the number of bytes named
+unfoldable pub countNamed : Memories → Control → Region → ℕ
+countNamed m c region = count 1024 (named m c region)
+
+-- what painting leaves: the count that it answers, and the frame
+pub record Painting : Type 0 where
+  pub count : ℕ
+  pub frame : List ℕ
+
+abbrev pub painting : ℕ → List ℕ → Painting
+painting n frame = record { count = n; frame = frame }
+
+-- the places of a set are painted and counted
+abbrev pub paints : (ℕ → Bool) → (ℕ → ℕ) → List ℕ → Painting
+paints set bytes frame = painting (count 1024 set) (painted set bytes frame)
+
+-- a region is painted and counted
+abbrev pub repaint : Seen → Memories → Control → Region → List ℕ → Painting
+repaint e m c region frame = painting (countNamed m c region) (repainted e m c region frame)
+
+-- the numbers that a region carries lie within the memories
+abbrev pub cellWithin : Cell → Type 0
+cellWithin Nowhere = Unit {0}
+cellWithin (Word word) = word < 64
+
+abbrev pub regionWithin : Region → Type 0
+regionWithin Nothing = Unit {0}
+regionWithin Whole = Unit {0}
+regionWithin (Cells a b) = cellWithin a × cellWithin b
+regionWithin (GlyphHalf word low) = word < 64
+regionWithin (GraphicHalf row column low) = (row < 64) × (column < 16)
+
+-- whether two cells are one
+abbrev pub sameCell : Cell → Cell → Bool
+sameCell Nowhere b = false
+sameCell (Word a) Nowhere = false
+sameCell (Word a) (Word b) = eqb a b
