@@ -7,11 +7,9 @@ use borrow.Author.Tests.{leb-true}
 use Rattle.base.proofs.Choice.{either, either-told}
 use Rattle.controller.specs.Glass.{imageOf}
 use Rattle.controller.specs.declared.Image as image
-use Rattle.controller.specs.declared.Image.the-variants as found
 use Rattle.glyph.specs.declared.Code.{Code}
 use Rattle.glyph.specs.declared.Code.the-variants.{Unnumbered, Number}
 use Rattle.glyph.specs.declared.Content.{Content}
-use Rattle.glyph.specs.declared.Content.the-variants.{Image, Full, Halves, Blank}
 use Rattle.glyph.specs.Numbering.{numberOf}
 use Rattle.glyph.specs.Lookup.{fullOf, fontOf, imageOr, contentOf}
 use Rattle.glyph.specs.Dots.{Inside}

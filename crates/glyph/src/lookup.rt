@@ -5,7 +5,6 @@ use crate::numbering::number;
 use controller::Image;
 use controller::named::image;
 ghost use mathlib.Core.Path.{_≡_};
-ghost use Rattle.glyph.specs.Numbering.{numberOf};
 ghost use Rattle.glyph.specs.Lookup.{fullOf, fontOf, contentOf};
 
 // A numbered code shows its glyph where that lies whole inside a full font of `length` bytes.

@@ -155,7 +155,7 @@ unlessOther-count : (e : Seen) (s : State) (frame : List ℕ) (t : Taken) → un
 unlessOther-count e s frame otherLink = refl
 unlessOther-count e s frame (taken x) = refl
 
--- (D)
+-- whatever link the call comes over
 pub called-count :
     (e : Seen) (s : State) (frame : List ℕ) (call : Call) (t : Transfer)
     → carries (s .control) (s .link) call ≡ whole t

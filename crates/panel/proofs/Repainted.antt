@@ -76,7 +76,7 @@ module _ (e : Seen) (m : Memories) (c : Control) (r : InRange c) where
   unfolding resetStep
   reset-unnamed parallel row column h u = absurd (never-whole _ _ row column u)
 
--- (A) for every call that is carried out
+-- for every call that is carried out
 abbrev TakenKept : Seen → Memories → Control → Taken → Type 0
 TakenKept e m c otherLink = Unit {0}
 TakenKept e m c (taken x) = UnnamedKept e m c (x .acted)
@@ -116,7 +116,7 @@ unlessOther-shows :
 unlessOther-shows e s otherLink k = refl
 unlessOther-shows e s (taken x) k = repainted-picture e (s .memories) (s .control) (x .acted) k
 
--- (B)
+-- a call on a frame that is the picture leaves the picture
 pub called-shows :
     (e : Seen) (s : State) (call : Call) → Valid s → ShowsPicture e (called e s (picture e (s .memories) (s .control)) call)
 unfolding called

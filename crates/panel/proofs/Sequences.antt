@@ -14,7 +14,7 @@ after-valid e s frame [] v = v
 after-valid e s frame (call ∷ calls) v =
     after-valid e (called e s frame call .state) (called e s frame call .frame) calls (called-valid e s frame call v)
 
--- (C)
+-- so a frame that begins as the picture goes on being it
 pub after-shows :
     (e : Seen) (s : State) (frame : List ℕ) (calls : List Call)
     → Valid s

@@ -193,7 +193,6 @@ impl Panel {
 
     // The whole picture, drawn afresh into the frame; answers the refusal number.
     pub fn draw(self, frame: &mut [u8], half: &[u8], full: &[u8], phase: bool) -> u8
-        requires { ⌜ Valid (stateOf self) ⌝ }
         ensures { λ r. ⌜ leaves r (now (frame .exit)) ≡ drawn (seen half full phase) (memoriesOf self) (self .control) (now (frame .entry)) ⌝ }
     {
         let text = self.text;

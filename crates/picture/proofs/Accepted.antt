@@ -1,7 +1,7 @@
 -- What an accepted call was lent, by the tests of the refusals; and what a drawing leaves, accepted or refused.
 use Prim.Native.Nat.{ℕ, _%_, _≤_}
 use mathlib.Core.Path.{_≡_}
-use mathlib.Core.Bool.{true, false, not, _||_}
+use mathlib.Core.Bool.{not, _||_}
 use mathlib.Core.List.{List}
 use native.Mathlib.Omega.{arith}
 use lib.ListN.{length}

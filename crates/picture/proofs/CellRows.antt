@@ -1,24 +1,25 @@
--- One row of a cell, painted: the two bytes stored are the picture's, and their places are those of that row of the cell.
-use Prim.Native.Nat.{ℕ, _+_, _*_, _/_, _%_, _<_, _≤_}
+-- The picture's bytes by their places; and one row of a cell, painted: its two bytes are the picture's, at the places of that row of the cell.
+use Prim.Native.Nat.{ℕ, _+_, _*_, _/_, _%_, _<_}
 use mathlib.Core.Path.{_≡_, refl, sym, ap₂, _∙_, ap}
 use mathlib.Core.Logic.{_≢_, ⊎-elim}
-use mathlib.Core.Bool.{Bool, true, false, _&&_, _||_}
+use mathlib.Core.Bool.{true, false, _||_}
 use mathlib.Core.List.{List}
 use native.Mathlib.Nat.{add-zero}
 use native.Mathlib.Omega.{arith}
-use lib.ListN.{length}
+use lib.ListN.{length, getD}
 use lib.Dec.{eqb}
 use borrow.Author.Tests.{eqb-true, eqb-false, eq-eqb, ne-eqb}
 use Rattle.base.specs.Lists.{upto}
 use Rattle.base.specs.Painting.{painted, count, everywhere, between}
 use Rattle.base.proofs.Tests.{alike, and-both, or-either, or-else}
+use Rattle.base.proofs.Lists.{length-upto, getD-upto}
 use Rattle.base.proofs.Counting.{count-cong}
 use Rattle.base.proofs.Painting.{painted-same, painted-cong}
 use Rattle.base.proofs.Loops.{in-between, paint-begin, paint-step, paint-every, pair-painted, pair-count, turn-pair}
 use Rattle.controller.specs.declared.Control.{Control}
 use Rattle.controller.specs.Memories.{Memories}
 use Rattle.controller.specs.Glass.{placeOf}
-use Rattle.picture.specs.Picture.{Seen, right, byteAt, atPlace, inCellRow, cellPair}
+use Rattle.picture.specs.Picture.{Seen, right, byteAt, atPlace, picture, inCellRow, cellPair}
 use Rattle.picture.specs.declared.Strip.{Strip}
 use Rattle.picture.specs.Strip.{stripAt, stripByte, stripPair, stored}
 use Rattle.picture.proofs.Strips.{strip-byte}
@@ -29,6 +30,15 @@ at-place f row column h =
     let a : (32 * row + column) / 32 ≡ row = omega arith in
     let b : (32 * row + column) % 32 ≡ column = omega arith in
     rw (a, b)
+
+-- the picture has 1,024 bytes, each that of its row and column
+pub picture-length : (e : Seen) (m : Memories) (c : Control) → length (picture e m c) ≡ 1024
+unfolding picture
+picture-length e m c = length-upto 1024 _
+
+pub picture-at : (e : Seen) (m : Memories) (c : Control) (i : ℕ) → i < 1024 → getD (picture e m c) i 0 ≡ atPlace (byteAt e m c) i
+unfolding picture
+picture-at e m c i h = getD-upto 1024 _ i h
 
 module _ (row cell : ℕ) (cells : cell < 16) where
   -- the places of one row of a cell: two neighbours

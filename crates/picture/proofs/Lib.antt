@@ -4,3 +4,4 @@ pub mod Strips
 pub mod CellRows
 pub mod Accepted
 pub mod Masks
+pub mod Commute

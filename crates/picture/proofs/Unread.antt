@@ -2,14 +2,12 @@
 use Prim.Native.Nat.{ℕ, _+_, _*_, _/_, _%_, _<_}
 use mathlib.Core.Path.{_≡_, refl, sym, _∙_}
 use mathlib.Core.Logic.{_≢_}
-use mathlib.Core.Bool.{Bool, true, false, _&&_, true≢false}
+use mathlib.Core.Bool.{Bool, true, false, true≢false}
 use native.Mathlib.Omega.{arith}
-use lib.ListN.{getD, set, length}
+use lib.ListN.{set, length}
 use lib.Seq.{getD-set-other}
-use lib.Dec.{eqb}
 use borrow.Author.Tests.{eq-eqb, eqb-true, eqb-false}
 use Rattle.controller.specs.declared.View.{View}
-use Rattle.controller.specs.declared.Image.the-variants.{Number}
 use Rattle.controller.specs.Memories.{Memories, memories, half, wordPlace, imageRow, graphicPlace}
 use Rattle.controller.specs.Glass.{shownRow, shownWord, wordImage}
 use Rattle.controller.specs.Named.{showsGlyph, showsGraphic}

@@ -1,5 +1,4 @@
 pub mod Shows
-pub mod Bytes
 pub mod Unnamed
 pub mod Counts
 pub mod Records

@@ -33,7 +33,7 @@ use Rattle.controller.specs.Transfers.{executed, written, readOut}
 use Rattle.picture.specs.Picture.{Seen, atCounter, cellByte, graphicByte, byteAt}
 use Rattle.picture.proofs.Parts.{SameParts, equal-parts-equal-bytes}
 use Rattle.repaint.proofs.Shows.{in-cell-shows, counter-cell-shows}
-use Rattle.repaint.proofs.Bytes.{text-other, glyph-other, graphic-other}
+use Rattle.picture.proofs.Unread.{text-unread, glyph-unshown, graphic-unshown}
 
 module _ (v : View) (text : List ℕ) (row column : ℕ) where
   pub never-whole : covers v text Whole row column ≡ false → ⊥
@@ -180,18 +180,18 @@ module _ (e : Seen) (m : Memories) (c : Control) (row column : ℕ) where
       let k : eqb (shownWord (c .view) row (column / 2)) (c .place .counter) ≡ false = sym (in-cell-shows (c .view) (c .place .counter) row column) ∙ n .0 in
       moved-on-same (stored Text (c .place) b m) s
       (ap (λ (x : Bool). isText (c .place .target) && x) (same-word (c .view) row column (c .place .low) (c .place .counter) _ k (n .1)))
-      (text-other e m (c .view) row column (c .place .counter) (c .place .low) b (eqb-false (shownWord (c .view) row (column / 2)) (c .place .counter) k))
+      (text-unread e m (c .view) row column (c .place .counter) (c .place .low) b (eqb-false (shownWord (c .view) row (column / 2)) (c .place .counter) k))
       refl
   stored-unnamed b Glyph r l q s u =
       moved-on-same (stored Glyph (c .place) b m) s
       (neither (isText (c .place .target)) _ _ (ap isText q))
-      (glyph-other e m (c .view) row column (c .place .counter) (c .place .low) b u)
+      (glyph-unshown e m (c .view) row column (c .place .counter) (c .place .low) b u)
       refl
   stored-unnamed b Graphic r l q s u =
       moved-on-same (stored Graphic (c .place) b m) s
       (neither (isText (c .place .target)) _ _ (ap isText q))
       refl
-      (graphic-other m (c .view) row column (c .place .row) (c .place .counter) (c .place .low) b l (subst (λ (t : Target). c .place .counter < limit t) q (r .counter)) u)
+      (graphic-unshown e m (c .view) row column (c .place .row) (c .place .counter) (c .place .low) b l (subst (λ (t : Target). c .place .counter < limit t) q (r .counter)) u)
 
   pub written-unnamed :
       (b : ℕ)

@@ -24,4 +24,6 @@ paint-in-strip-spec =
     (λ c. search needs)
     (λ c κs. search needs)
     (λ c. search needs)
-    (λ c. let a = c .before .before .before .before .before .before .before .before .args in let h : 32 * a .row + 2 * a .cell + 2 ≤ length (a .frame .now) = omega arith in rw (c .before .before .paint-row .ensures) (put-pair _ _ _ _ h ∙ ap (stored (a .frame .now) (placeOf (a .row) (2 * a .cell))) (c .before .before .before .before .cell-row .ensures))))
+    (λ c. let a = c .before .before .before .before .before .before .before .before .args in
+    let h : 32 * a .row + 2 * a .cell + 2 ≤ length (a .frame .now) = omega arith in
+    rw (c .before .before .paint-row .ensures) (put-pair _ _ _ _ h ∙ ap (stored (a .frame .now) (placeOf (a .row) (2 * a .cell))) (c .before .before .before .before .cell-row .ensures))))

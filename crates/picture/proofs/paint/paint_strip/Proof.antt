@@ -12,7 +12,9 @@ use Rattle.picture.proofs.paint.paint_strip.Statement.{statement}
 use Rattle.picture.proofs.paint.paint_strip.Tie as tie
 
 abbrev Inv-loop : tie.InvT-loop
-Inv-loop text glyph graphic row frame₀ half full phase strip cell₀ frame cell = (cell ≤ 16) × (length frame ≡ 1024) × (frame ≡ painted (between (32 * row) (32 * row + 2 * cell) everywhere) (stripPlace half full (memories text glyph graphic) strip) frame₀)
+Inv-loop text glyph graphic row frame₀ half full phase strip cell₀ frame cell =
+    (cell ≤ 16) × (length frame ≡ 1024)
+    × (frame ≡ painted (between (32 * row) (32 * row + 2 * cell) everywhere) (stripPlace half full (memories text glyph graphic) strip) frame₀)
 
 abbrev μ-loop : tie.MeasureT-loop
 μ-loop text glyph graphic row frame₀ half full phase strip cell₀ frame cell = 16 - cell
@@ -28,6 +30,10 @@ paint-strip-spec =
     (λ c κs. (rw (c .before .before .before .strip .ensures) (strip-on-glass _ _ _), search needs, search needs, search needs, search needs))
     (λ c. search needs)
     (λ c. search needs)
-    (λ c. let l = c .before .before .before .before .before .loop in let k : l .cell < 16 = omega arith in (search needs, search needs, strip-turns _ _ _ _ _ _ _ _ _ (c .before .before .before .before .before .before .before .before .before .before .pre .0) k (l .inv .1) (l .inv .2) (c .before .before .paint-in-strip .ensures)))
+    (λ c. let l = c .before .before .before .before .before .loop in
+    let k : l .cell < 16 = omega arith in
+    (search needs, search needs, strip-turns _ _ _ _ _ _ _ _ _ (c .before .before .before .before .before .before .before .before .before .before .pre .0) k (l .inv .1) (l .inv .2) (c .before .before .paint-in-strip .ensures)))
     (λ c. search needs)
-    (λ c. let l = c .before .loop in let k : l .cell ≡ 16 = omega arith in strip-ends _ _ _ _ _ _ _ k (rw (c .before .before .strip .ensures) at (l .inv .2))))
+    (λ c. let l = c .before .loop in
+    let k : l .cell ≡ 16 = omega arith in
+    strip-ends _ _ _ _ _ _ _ k (rw (c .before .before .strip .ensures) at (l .inv .2))))

@@ -13,7 +13,9 @@ use Rattle.picture.proofs.paint.paint_whole.Statement.{statement}
 use Rattle.picture.proofs.paint.paint_whole.Tie as tie
 
 abbrev Inv-loop : tie.InvT-loop
-Inv-loop text glyph graphic control frame₀ half full phase row₀ frame row = (row ≤ 32) × (length frame ≡ 1024) × (frame ≡ painted (between 0 (32 * row) everywhere) (atPlace (byteAt (record { half = half; full = full; phase = phase }) (memories text glyph graphic) control)) frame₀)
+Inv-loop text glyph graphic control frame₀ half full phase row₀ frame row =
+    (row ≤ 32) × (length frame ≡ 1024)
+    × (frame ≡ painted (between 0 (32 * row) everywhere) (atPlace (byteAt (record { half = half; full = full; phase = phase }) (memories text glyph graphic) control)) frame₀)
 
 abbrev μ-loop : tie.MeasureT-loop
 μ-loop text glyph graphic control frame₀ half full phase row₀ frame row = 32 - row
@@ -31,4 +33,6 @@ paint-whole-spec =
     (λ c. search needs)
     (λ c. let l = c .before .before .before .before .before .loop in (search needs, search needs, rows-turn _ _ _ _ _ (l .inv .2) (c .before .before .paint-strip .ensures)))
     (λ c. search needs)
-    (λ c. let l = c .before .loop in let k : l .row ≡ 32 = omega arith in rows-end _ _ _ _ k (c .before .before .before .before .before .pre .0) (l .inv .2)))
+    (λ c. let l = c .before .loop in
+    let k : l .row ≡ 32 = omega arith in
+    rows-end _ _ _ _ k (c .before .before .before .before .before .pre .0) (l .inv .2)))

@@ -14,4 +14,5 @@ shade-spec =
     (λ c κs. search needs)
     (λ c κs. search needs)
     (λ c κs. search needs)
-    (λ c. let a = c .before .before .before .before .args in rw (c .before .before .before .if1 .left) (c .overlay .ensures ∙ ap (overlaid (a .effects .graphic) (a .dots)) (c .before .invert .ensures ∙ ap (inverted (a .effects .reverse)) (c .before .before .mark .ensures)))))
+    (λ c. let a = c .before .before .before .before .args in
+    rw (c .before .before .before .if1 .left) (c .overlay .ensures ∙ ap (overlaid (a .effects .graphic) (a .dots)) (c .before .invert .ensures ∙ ap (inverted (a .effects .reverse)) (c .before .before .mark .ensures)))))

@@ -1,0 +1,19 @@
+-- By computation.
+use borrow.Author.Needs.{needs}
+use mathlib.Core.Path.{refl}
+use Rattle.boundary.specs.Packed.{viewOf}
+use Rattle.boundary.proofs.view.Statement.{statement}
+use Rattle.boundary.proofs.view.Tie as tie
+
+pub view-spec : {M : Type 1} → statement M
+unfolding viewOf
+view-spec =
+    tie.close
+    (tie.spec
+    (λ c. search needs)
+    (λ c. search needs)
+    (λ c. search needs)
+    (λ c. search needs)
+    (λ c. search needs)
+    (λ c. search needs)
+    (λ c. refl))

@@ -1,0 +1,61 @@
+-- The controls as bytes: target, counter, row, half next, dummy due, whether a row waits and which, I/D, S, display, cursor, blink,
+-- DL, RE, G, SR, standby, scroll, shift, and the four reversed lines. A flag is bit 0 of its byte, a number the bits it has room for.
+use Prim.Native.Nat.{ℕ, _%_}
+use mathlib.Core.Bool.{Bool}
+use mathlib.Core.List.{List, [], _∷_}
+use lib.ListN.{getD}
+use lib.Dec.{eqb}
+use Rattle.base.specs.Choice.{if_then_else_}
+use Rattle.table.specs.declared.Target.{Target}
+use Rattle.table.specs.declared.Target.the-variants.{Text, Glyph, Graphic}
+use Rattle.controller.specs.declared.Waiting.{Waiting}
+use Rattle.controller.specs.declared.Waiting.the-variants.{Nothing, Row}
+use Rattle.controller.specs.declared.Place.{Place}
+use Rattle.controller.specs.declared.View.{View}
+use Rattle.controller.specs.declared.Control.{Control}
+
+abbrev pub flag : ℕ → Bool
+flag byte = eqb (byte % 2) 1
+
+-- 0 text, 1 glyph, 2 graphic
+abbrev pub targetOf : ℕ → Target
+targetOf byte = if eqb (byte % 4) 0 then Text else if eqb (byte % 4) 1 then Glyph else Graphic
+
+abbrev pub counterOf : Target → ℕ → ℕ
+counterOf Text byte = byte % 64
+counterOf Glyph byte = byte % 64
+counterOf Graphic byte = byte % 16
+
+abbrev pub waitingOf : Bool → ℕ → Waiting
+waitingOf waits row = if waits then Row (row % 64) else Nothing
+
+unfoldable pub placeOf : List ℕ → Place
+placeOf b =
+    record {
+      target = targetOf (getD b 0 0);
+      counter = counterOf (targetOf (getD b 0 0)) (getD b 1 0);
+      row = getD b 2 0 % 64;
+      low = flag (getD b 3 0);
+      dummy = flag (getD b 4 0);
+      waiting = waitingOf (flag (getD b 5 0)) (getD b 6 0);
+    }
+
+unfoldable pub viewOf : List ℕ → View
+viewOf b =
+    record {
+      scroll = getD b 17 0 % 64;
+      shift = getD b 18 0 % 16;
+      reversed = flag (getD b 19 0) ∷ flag (getD b 20 0) ∷ flag (getD b 21 0) ∷ flag (getD b 22 0) ∷ [];
+    }
+
+unfoldable pub unpacked : List ℕ → Control
+unpacked b =
+    record {
+      place = placeOf b;
+      entry = record { id = flag (getD b 7 0); s = flag (getD b 8 0) };
+      shown = record { display = flag (getD b 9 0); cursor = flag (getD b 10 0); blink = flag (getD b 11 0) };
+      function = record { dl = flag (getD b 12 0); re = flag (getD b 13 0); g = flag (getD b 14 0) };
+      sr = flag (getD b 15 0);
+      view = viewOf b;
+      standby = flag (getD b 16 0);
+    }

@@ -1,0 +1,61 @@
+//! The picture in plain Rust, dot by dot, as document 01 says it.
+use crate::screen::*;
+
+/// Whether the dot `x` of glyph row `y` of a text word is set, before cursor and the rest.
+fn glyph_dot(s: &Screen, f: &Fonts, word: usize, y: usize, x: usize) -> bool {
+    let (high, low) = (s.text[2 * word], s.text[2 * word + 1]);
+    let byte = if high == 0 && low <= 0x0F {
+        let image = (low / 2 % 4) as usize;
+        s.glyph[2 * (16 * image + y) + x / 8]
+    } else if high >= 0xA1 {
+        if high > 0xF7 || low < 0xA0 {
+            return false;
+        }
+        let number = (high as usize - 0xA1) * 96 + (low as usize - 0xA0);
+        if 32 * number + 32 > f.full.len() {
+            return false;
+        }
+        f.full[32 * number + 2 * y + x / 8]
+    } else {
+        let code = if x < 8 { high } else { low };
+        if !(0x02..=0x7F).contains(&code) {
+            return false;
+        }
+        f.half[16 * code as usize + y]
+    };
+    byte >> (7 - x % 8) & 1 == 1
+}
+
+fn dot(s: &Screen, f: &Fonts, phase: bool, row: usize, column: usize) -> bool {
+    let on = |at: usize| s.control[at] == 1;
+    if !on(DISPLAY) || on(STANDBY) {
+        return false;
+    }
+    let line = (row + s.control[SCROLL] as usize) % 64;
+    let (cell, x, y) = (column / 16, column % 16, line % 16);
+    let word = 16 * (line / 16) + (cell + s.control[SHIFT] as usize) % 16;
+    let mut dot = glyph_dot(s, f, word, y, x);
+    if s.control[TARGET] == 0 && s.control[COUNTER] as usize == word {
+        dot |= on(CURSOR) && y == 15;
+        dot ^= on(BLINK) && phase;
+    }
+    dot ^= on(REVERSED + line / 16);
+    if on(G) {
+        dot ^= s.graphic[32 * line + column / 8] >> (7 - column % 8) & 1 == 1;
+    }
+    dot
+}
+
+pub fn draw(s: &Screen, f: &Fonts, phase: bool, frame: &mut [u8]) {
+    for row in 0..32 {
+        for column in 0..256 {
+            let place = 32 * row + column / 8;
+            let mask = 0x80 >> (column % 8);
+            if dot(s, f, phase, row, column) {
+                frame[place] |= mask;
+            } else {
+                frame[place] &= !mask;
+            }
+        }
+    }
+}

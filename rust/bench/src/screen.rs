@@ -1,0 +1,98 @@
+//! A state to draw: the memories, the controls as the boundary packs them, and fonts.
+
+/// The controls' bytes that the drawings here look at; the boundary's `unpacked` has the whole order.
+pub const TARGET: usize = 0;
+pub const COUNTER: usize = 1;
+pub const DISPLAY: usize = 9;
+pub const CURSOR: usize = 10;
+pub const BLINK: usize = 11;
+pub const G: usize = 14;
+pub const STANDBY: usize = 16;
+pub const SCROLL: usize = 17;
+pub const SHIFT: usize = 18;
+pub const REVERSED: usize = 19;
+
+pub struct Screen {
+    pub text: [u8; 128],
+    pub glyph: [u8; 128],
+    pub graphic: [u8; 2048],
+    pub control: [u8; 23],
+}
+
+pub struct Fonts {
+    pub half: Vec<u8>,
+    pub full: Vec<u8>,
+}
+
+/// A small generator with a seed, so that every run draws the same screens.
+pub struct Random(pub u64);
+
+impl Random {
+    pub fn next(&mut self) -> u64 {
+        self.0 ^= self.0 << 13;
+        self.0 ^= self.0 >> 7;
+        self.0 ^= self.0 << 17;
+        self.0
+    }
+
+    pub fn byte(&mut self) -> u8 {
+        (self.next() >> 24) as u8
+    }
+}
+
+pub fn fonts(random: &mut Random) -> Fonts {
+    Fonts {
+        half: (0..2048).map(|_| random.byte()).collect(),
+        full: (0..267_264).map(|_| random.byte()).collect(),
+    }
+}
+
+/// What a screen shows in its text memory.
+#[derive(Clone, Copy)]
+pub enum Words {
+    Spaces,
+    Letters,
+    Glyphs,
+    Mixed,
+}
+
+fn word(words: Words, random: &mut Random) -> [u8; 2] {
+    match words {
+        Words::Spaces => [0x20, 0x20],
+        Words::Letters => [0x21 + random.byte() % 0x5E, 0x21 + random.byte() % 0x5E],
+        Words::Glyphs => [0xA1 + random.byte() % 0x57, 0xA0 + random.byte() % 0x60],
+        Words::Mixed => match random.byte() % 4 {
+            0 => [0x00, random.byte() % 0x10],
+            1 => word(Words::Glyphs, random),
+            2 => word(Words::Letters, random),
+            _ => [random.byte(), random.byte()],
+        },
+    }
+}
+
+pub fn screen(words: Words, graphics: bool, random: &mut Random) -> Screen {
+    let mut screen = Screen {
+        text: [0; 128],
+        glyph: [0; 128],
+        graphic: [0; 2048],
+        control: [0; 23],
+    };
+    for k in 0..64 {
+        let [high, low] = word(words, random);
+        screen.text[2 * k] = high;
+        screen.text[2 * k + 1] = low;
+    }
+    screen.glyph.fill_with(|| random.byte());
+    if graphics {
+        screen.graphic.fill_with(|| random.byte());
+    }
+    screen.control[COUNTER] = random.byte() % 64;
+    screen.control[DISPLAY] = 1;
+    screen.control[CURSOR] = 1;
+    screen.control[BLINK] = 1;
+    screen.control[G] = graphics as u8;
+    screen.control[SCROLL] = random.byte() % 64;
+    screen.control[SHIFT] = random.byte() % 16;
+    screen.control[REVERSED + 1] = 1;
+    screen
+}

@@ -1,0 +1,53 @@
+//! A text write with its repaint, timed from outside: the program `strokes` does one thing a million times.
+use std::process::{Command, Stdio};
+use std::time::Instant;
+
+const PROGRAM: &str = "target/bin/strokes";
+const RUNS: usize = 11;
+const TIMES: f64 = 1e6;
+
+/// Nanoseconds for one of them, over a whole run of the program.
+fn once(what: &str) -> Option<f64> {
+    let start = Instant::now();
+    let status = Command::new(PROGRAM)
+        .arg(what)
+        .stdout(Stdio::null())
+        .status()
+        .ok()?;
+    status
+        .success()
+        .then(|| start.elapsed().as_nanos() as f64 / TIMES)
+}
+
+/// Prints the middle of several runs, taken in turn so that a busy moment meets them alike.
+pub fn measure() {
+    let what = ["lent", "value", "copy", "draw"];
+    let mut times = [(); 4].map(|_| Vec::new());
+    for _ in 0..RUNS {
+        for (k, word) in what.iter().enumerate() {
+            match once(word) {
+                Some(time) => times[k].push(time),
+                None => {
+                    eprintln!("bench: {PROGRAM} cannot be run: `rt check strokes` builds it, and bench is run at the project's root");
+                    return;
+                }
+            }
+        }
+    }
+    let middle = times.map(|mut t| {
+        t.sort_by(f64::total_cmp);
+        t[RUNS / 2]
+    });
+    println!("\nNanoseconds, the middle of {RUNS} runs of a million each.\n");
+    println!("| what | ns | as a part of a whole draw |");
+    println!("|---|---|---|");
+    let names = [
+        "text write with repaint, on lent memories",
+        "text write with repaint, by value",
+        "a copy of the state alone",
+        "whole draw",
+    ];
+    for (name, time) in names.iter().zip(middle) {
+        println!("| {name} | {time:.0} | 1/{:.1} |", middle[3] / time);
+    }
+}

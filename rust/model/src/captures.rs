@@ -1,0 +1,69 @@
+//! Captures: records of four bytes, and refusal numbers 6 to 9.
+
+/// A record: a kind and a value.
+#[derive(Clone, Copy, PartialEq, Eq, Debug)]
+pub struct Record {
+    /// 0 instruction write, 1 data write, 2 status read, 3 data read, 4 eight
+    /// serial bits, 5 chip select low, 6 reset.
+    pub kind: u8,
+    pub value: u8,
+}
+
+/// A small reader that holds the capture it was lent.
+#[derive(Clone, Copy, PartialEq, Eq, Debug)]
+pub struct Reader<'a> {
+    capture: &'a [u8],
+    position: usize,
+}
+
+impl<'a> Reader<'a> {
+    pub fn new(capture: &'a [u8]) -> Reader<'a> {
+        Reader {
+            capture,
+            position: 0,
+        }
+    }
+
+    /// The rest of the caller's own capture, beginning after what was read.
+    pub fn rest(&self) -> &'a [u8] {
+        &self.capture[self.position..]
+    }
+
+    /// Yields a record, or says why not: 0 at the end of the capture, else
+    /// the refusal number. Only a record that is yielded is passed over.
+    pub fn read(&mut self) -> Result<Record, u8> {
+        let rest = self.rest();
+        if rest.is_empty() {
+            return Err(0);
+        }
+        // 6: 1 to 3 bytes remain.
+        if rest.len() < 4 {
+            return Err(6);
+        }
+        // 7: mark wrong.
+        if rest[0] != 0xA5 || rest[1] != 0x5A {
+            return Err(7);
+        }
+        let kind = rest[2];
+        let value = rest[3];
+        // 8: kind above 6.
+        if kind > 6 {
+            return Err(8);
+        }
+        // 9: value not allowed.
+        if !allowed(kind, value) {
+            return Err(9);
+        }
+        self.position += 4;
+        Ok(Record { kind, value })
+    }
+}
+
+/// Kinds 2, 3, 5 need value 0; 6 needs 0 or 1.
+fn allowed(kind: u8, value: u8) -> bool {
+    match kind {
+        2 | 3 | 5 => value == 0,
+        6 => value == 0 || value == 1,
+        _ => true,
+    }
+}

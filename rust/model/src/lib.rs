@@ -1,0 +1,47 @@
+//! A reference model of the display controller panel of document 01.
+//!
+//! It is written rule by rule and dot by dot, clear before fast, so that it
+//! can be ticked off against the document sentence by sentence. A comment
+//! says in few words which sentence a line stands for; "reading N" is the
+//! N-th of the readings that settle what document 01 leaves open.
+//!
+//! | Section of document 01 | Module |
+//! |---|---|
+//! | Memories and flags | `memories`, and `bytes` for comparing states |
+//! | Instructions | `instructions` (the table), `data` (reads and writes) |
+//! | Links | `links`, `parallel`, `serial`, `sender` |
+//! | The picture | `picture` |
+//! | Bytes named for repaint | `named` |
+//! | Refusal numbers | `calls` |
+//! | Captures | `captures`, `replay` |
+
+mod bytes;
+mod calls;
+mod captures;
+mod data;
+mod instructions;
+mod links;
+mod memories;
+mod named;
+mod parallel;
+mod picture;
+mod replay;
+mod sender;
+mod serial;
+
+pub use calls::Outcome;
+pub use captures::{Reader, Record};
+pub use instructions::{decide, Instruction};
+pub use links::{Kind, Link, Pair, Receiver, Transfer};
+pub use memories::{Half, Panel, Target};
+pub use named::{named, Named};
+pub use picture::full_glyph_number;
+pub use replay::{printed, replay, Answer, Replayed};
+pub use sender::send;
+
+/// A frame: 32 rows of 32 bytes.
+pub const FRAME_LENGTH: usize = 1_024;
+/// A half font: 128 codes of 16 rows.
+pub const HALF_FONT_LENGTH: usize = 2_048;
+/// The longest full font: 8,352 glyphs of 32 bytes.
+pub const FULL_FONT_LIMIT: usize = 267_264;

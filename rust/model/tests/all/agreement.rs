@@ -1,0 +1,122 @@
+//! Sender to receiver, and the same state over all three links (reading 37).
+
+use crate::bench::{without_link, Bench, Dice};
+use model::{send, Transfer};
+
+/// A write: data (true) or instruction, and its byte.
+type Write = (bool, u8);
+
+fn any_write(dice: &mut Dice) -> Write {
+    match dice.below(8) {
+        0..=3 => (true, dice.text_byte()),
+        4 => (false, 0x20 + dice.below(32) as u8),
+        5 => (false, dice.below(32) as u8),
+        _ => (false, dice.byte()),
+    }
+}
+
+/// A function set keeps the link's own DL in bit 4.
+fn keeping_width((register, byte): Write, dl: bool) -> Write {
+    if !register && (0x20..=0x3F).contains(&byte) {
+        (register, byte & !0x10 | u8::from(dl) << 4)
+    } else {
+        (register, byte)
+    }
+}
+
+fn transfer((register, byte): Write) -> Transfer {
+    if register {
+        Transfer::DataWrite(byte)
+    } else {
+        Transfer::InstructionWrite(byte)
+    }
+}
+
+fn as_byte(bench: &mut Bench, write: Write) -> usize {
+    bench.call(transfer(keeping_width(write, true))).count
+}
+
+fn as_half_bytes(bench: &mut Bench, write: Write) -> usize {
+    let (register, byte) = keeping_width(write, false);
+    let upper = bench.call(transfer((register, byte & 0xF0)));
+    assert_eq!((upper.reply, upper.count), (0, 0));
+    bench.call(transfer((register, byte << 4))).count
+}
+
+fn as_serial(bench: &mut Bench, write: Write) -> usize {
+    let (register, byte) = keeping_width(write, bench.panel.dl);
+    let mut buffer = [0; 3];
+    assert_eq!(send(register, byte, &mut buffer), 0);
+    bench.serial_bytes(&buffer)
+}
+
+#[test]
+fn what_is_sent_is_received() {
+    // Every write, begun on an idle link and after every other first byte.
+    for register in [false, true] {
+        for byte in 0..=255 {
+            let mut bench = Bench::serial();
+            let mut plain = Bench::parallel();
+            let mut buffer = [0; 3];
+            send(register, byte, &mut buffer);
+            let count = bench.serial_bytes(&buffer);
+            assert_eq!(count, plain.call(transfer((register, byte))).count);
+            assert_eq!(
+                bench.panel.bytes()[2_327..],
+                [1, 0, 0, 2, 0, 0, 0, u8::from(register), 0, 0]
+            );
+            let dl = bench.panel.dl;
+            assert_eq!(dl, plain.panel.dl);
+            assert_eq!(without_link(&bench.panel), without_link(&plain.panel));
+        }
+    }
+}
+
+#[test]
+fn any_number_of_writes_is_received() {
+    let mut dice = Dice::new(81);
+    for _ in 0..60 {
+        let mut bench = Bench::serial();
+        let mut data = Vec::new();
+        for _ in 0..40 {
+            let byte = dice.byte();
+            data.push(byte);
+            let mut buffer = [0; 3];
+            send(true, byte, &mut buffer);
+            bench.serial_bytes(&buffer);
+        }
+        for (word, bytes) in bench.panel.text.iter().zip(data.chunks(2)) {
+            assert_eq!(word.to_be_bytes(), bytes);
+        }
+        assert_eq!(bench.panel.counter, 20);
+    }
+}
+
+#[test]
+fn three_links_agree() {
+    let mut dice = Dice::new(82);
+    for round in 0..120 {
+        // Begin equal apart from link and DL, links idle.
+        let start = dice.panel(true);
+        let mut byte = Bench::with(start.clone());
+        byte.panel.dl = true;
+        let mut half = Bench::with(start.clone());
+        half.panel.dl = false;
+        let mut serial = Bench::with(start);
+        serial.panel.link = model::Link::idle(false);
+        serial.panel.dl = round % 2 == 0;
+        for _ in 0..40 {
+            let write = any_write(&mut dice);
+            let count = as_byte(&mut byte, write);
+            assert_eq!(count, as_half_bytes(&mut half, write));
+            assert_eq!(count, as_serial(&mut serial, write));
+            let same = without_link(&byte.panel);
+            assert_eq!(same, without_link(&half.panel));
+            assert_eq!(same, without_link(&serial.panel));
+            assert_eq!(byte.frame, half.frame);
+            assert_eq!(byte.frame, serial.frame);
+        }
+        assert!(byte.panel.dl && !half.panel.dl);
+        assert_eq!(serial.panel.dl, round % 2 == 0);
+    }
+}

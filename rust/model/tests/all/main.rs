@@ -1,0 +1,16 @@
+//! Tests of the reference model: the panel readings of document 01, its
+//! refusals, the readings that settle its open points, and long seeded runs.
+
+mod agreement;
+mod bench;
+mod calls;
+mod data;
+mod instructions;
+mod panel_readings;
+mod parallel;
+mod picture;
+mod random;
+mod refusals;
+mod repaint;
+mod second_picture;
+mod serial;
