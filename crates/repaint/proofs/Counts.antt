@@ -20,7 +20,7 @@ use Rattle.controller.specs.Memories.{Memories, half}
 use Rattle.controller.specs.Glass.{shownRow, shownWord, wordImage, isImage}
 use Rattle.controller.specs.Named.{inCell, inSomeCell, showsGlyph, showsGraphic, covers}
 use Rattle.picture.specs.Picture.{atPlace}
-use Rattle.repaint.specs.Repaint.{named, countNamed}
+use Rattle.repaint.specs.Repaint.{named, countNamed, mostOf}
 
 -- byte c of row r, as a place
 at-row : (r c : ℕ) → c < 32 → (r * 32 + c) / 32 ≡ r
@@ -132,6 +132,9 @@ count-cells v text a b =
     let second = some-cell-count v b in
     omega arith
 
+at-most : {n k : ℕ} → n ≡ k → n ≤ k
+at-most e = omega arith
+
 -- every byte, and none
 pub count-whole : (v : View) (text : List ℕ) → count 1024 (atPlace (covers v text Whole)) ≡ 1024
 unfolding covers
@@ -140,3 +143,12 @@ count-whole v text = count-all 1024 (atPlace (covers v text Whole)) (λ i h. ref
 pub count-nothing : (v : View) (text : List ℕ) → count 1024 (atPlace (covers v text Nothing)) ≡ 0
 unfolding covers
 count-nothing v text = count-none 1024 (atPlace (covers v text Nothing)) (λ i h. refl)
+
+-- whatever the region
+pub count-most : (m : Memories) (c : Control) (region : Region) → countNamed m c region ≤ mostOf region
+unfolding countNamed named covers
+count-most m c Nothing = at-most (count-nothing (c .view) (m .text))
+count-most m c Whole = at-most (count-whole (c .view) (m .text))
+count-most m c (Cells a b) = count-cells (c .view) (m .text) a b
+count-most m c (GlyphHalf word low) = count-glyph (c .view) (m .text) word low
+count-most m c (GraphicHalf y k low) = count-graphic (c .view) y k low

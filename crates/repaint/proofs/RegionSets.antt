@@ -1,18 +1,19 @@
 -- What each painter leaves is what its region asks for.
-use Prim.Native.Nat.{ℕ}
+use Prim.Native.Nat.{ℕ, _≤_}
 use mathlib.Core.Bool.{Bool}
 use mathlib.Core.List.{List}
-use mathlib.Core.Path.{_≡_, refl, _∙_, sym}
+use mathlib.Core.Path.{_≡_, refl, _∙_, sym, subst}
 use lib.ListN.{length}
 use Rattle.base.proofs.Painting.{painted-all}
 use Rattle.controller.specs.declared.Control.{Control}
+use Rattle.controller.specs.declared.Region.{Region}
 use Rattle.controller.specs.declared.Region.the-variants.{Nothing, Whole, GlyphHalf, GraphicHalf}
 use Rattle.controller.specs.Memories.{Memories}
 use Rattle.controller.specs.Named.{showsGlyph, showsGraphic, covers}
 use Rattle.picture.specs.Picture.{Seen, byteAt, atPlace, picture}
-use Rattle.repaint.specs.Repaint.{named, repainted, countNamed, painting, paints, repaint}
-use Rattle.repaint.proofs.Counts.{count-whole}
-use Rattle.repaint.proofs.Records.{painting-both}
+use Rattle.repaint.specs.Repaint.{named, repainted, countNamed, painting, paints, repaint, mostOf}
+use Rattle.repaint.proofs.Counts.{count-whole, count-most}
+use Rattle.repaint.proofs.Records.{painting-both, painting-count}
 use Rattle.repaint.proofs.Paintings.{paints-none}
 
 module _ (e : Seen) (m : Memories) (c : Control) (f : List ℕ) where
@@ -35,3 +36,10 @@ module _ (e : Seen) (m : Memories) (c : Control) (f : List ℕ) where
       (y k : ℕ) (low : Bool) → paints (atPlace (showsGraphic (c .view) y k low)) (atPlace (byteAt e m c)) f ≡ repaint e m c (GraphicHalf y k low) f
   unfolding repainted countNamed named covers
   graphic-painted y k low = refl
+
+-- a region painted is counted at its most
+pub at-its-most :
+    (e : Seen) (m : Memories) (c : Control) (f g : List ℕ) (n : ℕ) (region : Region)
+    → painting n g ≡ repaint e m c region f
+    → (painting n g ≡ repaint e m c region f) × (n ≤ mostOf region)
+at-its-most e m c f g n region h = (h, subst (λ (k : ℕ). k ≤ mostOf region) (sym (painting-count h)) (count-most m c region))

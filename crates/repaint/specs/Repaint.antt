@@ -43,6 +43,14 @@ paints set bytes frame = painting (count 1024 set) (painted set bytes frame)
 abbrev pub repaint : Seen → Memories → Control → Region → List ℕ → Painting
 repaint e m c region frame = painting (countNamed m c region) (repainted e m c region frame)
 
+-- the most bytes that a region can have: two cells of 32, a glyph half 32, a graphic half its one
+abbrev pub mostOf : Region → ℕ
+mostOf Nothing = 0
+mostOf Whole = 1024
+mostOf (Cells a b) = 64
+mostOf (GlyphHalf word low) = 32
+mostOf (GraphicHalf row column low) = 1
+
 -- the numbers that a region carries lie within the memories
 abbrev pub cellWithin : Cell → Type 0
 cellWithin Nowhere = Unit {0}

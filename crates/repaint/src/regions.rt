@@ -7,12 +7,13 @@ use controller::Control;
 use controller::Region;
 use picture::paint::paint_whole;
 ghost use mathlib.Core.Path.{_≡_};
+ghost use Prim.Native.Nat.{_≤_};
 ghost use lib.ListN.{length};
 ghost use Rattle.controller.specs.Memories.{before};
 ghost use Rattle.controller.specs.State.{InRange};
 ghost use Rattle.controller.specs.declared.Region.the-variants.{Cells};
 ghost use Rattle.picture.specs.Picture.{seen};
-ghost use Rattle.repaint.specs.Repaint.{painting, repaint, cellWithin, regionWithin, sameCell};
+ghost use Rattle.repaint.specs.Repaint.{painting, repaint, cellWithin, regionWithin, mostOf, sameCell};
 
 // Whether two cells are one: then it is painted and counted once.
 fn same_cell(a: Cell, b: Cell) -> bool
@@ -63,6 +64,7 @@ pub fn paint(
 ) -> usize
     requires { ⌜ InRange control × regionWithin region × (length (now frame) ≡ 1024) × (length (now half) ≡ 2048) ⌝ }
     ensures { λ r. ⌜ painting r (now (frame .exit)) ≡ repaint (seen half full phase) (before text glyph graphic) control region (now (frame .entry)) ⌝ }
+    ensures most { λ r. ⌜ r ≤ mostOf region ⌝ }
 {
     match region {
         Region::Nothing => 0,

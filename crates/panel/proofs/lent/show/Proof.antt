@@ -13,4 +13,4 @@ show-spec =
     (tie.spec
     (λ c κs. search needs)
     (λ c. search needs)
-    (λ c. ap (λ (p : Painting). record { state = state (memories (c .before .before .before .before .before .before .before .before .before .args .text .now) (c .before .before .before .before .before .before .before .before .before .args .glyph .now) (c .before .before .before .before .before .before .before .before .before .args .graphic .now)) (c .before .before .before .before .before .before .before .before .before .args .step .done .control) (c .before .before .before .before .before .before .before .before .before .args .step .link); number = 0; reply = c .before .before .before .before .before .before .before .before .before .args .step .done .reply; count = p .count; frame = p .frame }) (c .before .before .paint .ensures)))
+    (λ c. ap (λ (p : Painting). record { state = state (memories (c .before .before .before .before .before .before .before .before .before .args .text .now) (c .before .before .before .before .before .before .before .before .before .args .glyph .now) (c .before .before .before .before .before .before .before .before .before .args .graphic .now)) (c .before .before .before .before .before .before .before .before .before .args .step .done .control) (c .before .before .before .before .before .before .before .before .before .args .step .link); number = 0; reply = c .before .before .before .before .before .before .before .before .before .args .step .done .reply; count = p .count; frame = p .frame }) (c .before .before .paint .ensures .0)))
