@@ -1,0 +1,135 @@
+-- What holds at each turn of a replay's loop, over plain values: what is left of the capture, behind the answers so far, replays as the whole.
+use Prim.Native.Nat.{ℕ, _+_, _≤_}
+use mathlib.Core.List.{List, [], _∷_, _++_, append-assoc, append-nil}
+use mathlib.Core.Path.{_≡_, refl, sym, ap, _∙_}
+use native.Mathlib.Omega.{arith}
+use borrow.Author.Tests.{eq-eqb, ne-eqb}
+use lib.ListN.{length, drop, length-drop}
+use Rattle.picture.specs.Picture.{Seen}
+use Rattle.picture.specs.Refusals.{refusalOf}
+use Rattle.panel.specs.State.{State, Valid}
+use Rattle.panel.specs.Calls.{Called, refused}
+use Rattle.capture.specs.declared.Answer.{Answer}
+use Rattle.capture.specs.declared.Answer.the-variants.{Record}
+use Rattle.capture.specs.Record.{number}
+use Rattle.capture.specs.Capture.{Contents, contents, answerAt, passed}
+use Rattle.capture.proofs.Answers.{record-within}
+use Rattle.capture.proofs.Contents.{contents-at-record, contents-at-stop}
+use Rattle.transcript.specs.Records.{recorded}
+use Rattle.transcript.specs.Replay.{Answered, Ending, endingAt, Replayed, halted, answered, afterAnswer, obeyed, obeyedAll, replayed}
+use Rattle.transcript.proofs.Refused.{recorded-unmoved, recorded-length}
+
+-- answers before those of a replay
+abbrev pub afterAnswers : List Answered → Replayed → Replayed
+afterAnswers before r = record { answers = before ++ r .answers; ending = r .ending }
+
+pub one-more : (before : List Answered) (a : Answered) (r : Replayed) → afterAnswers before (afterAnswer a r) ≡ afterAnswers (before ++ (a ∷ [])) r
+one-more before a r = ap (λ (l : List Answered). record { answers = l; ending = r .ending }) (sym (append-assoc before (a ∷ []) (r .answers)))
+
+module _ (e : Seen) (c : List ℕ) (s : State) (f : List ℕ) (n at : ℕ) where
+  -- an accepted record answers, and the rest is replayed on what it left
+  pub obeyed-record :
+      {kind value : ℕ} (k : Called)
+      → answerAt c at ≡ Record kind value
+      → k ≡ recorded e kind value s f
+      → k .number ≡ 0
+      → obeyedAll e (contents (drop at c)) s f n ≡ afterAnswer (answered kind k) (obeyedAll e (contents (drop (at + 4) c)) (k .state) (k .frame) (n + 1))
+  unfolding obeyed
+  obeyed-record k h is z =
+      ap (λ (x : Contents). obeyedAll e x s f n) (contents-at-record c at h) ∙ rw (← is, eq-eqb (k .number) 0 z)
+
+  obeyed-refused :
+      {kind value : ℕ} (k : Called)
+      → answerAt c at ≡ Record kind value
+      → k ≡ recorded e kind value s f
+      → (k .number ≡ 0 → ⊥)
+      → obeyedAll e (contents (drop at c)) s f n ≡ halted s f n (k .number)
+  unfolding obeyed
+  obeyed-refused k h is z =
+      ap (λ (x : Contents). obeyedAll e x s f n) (contents-at-record c at h) ∙ rw (← is, ne-eqb (k .number) 0 z)
+
+  obeyed-stop : passed (answerAt c at) ≡ 0 → obeyedAll e (contents (drop at c)) s f n ≡ halted s f n (number (answerAt c at))
+  unfolding obeyed
+  obeyed-stop h = ap (λ (x : Contents). obeyedAll e x s f n) (contents-at-stop c at h)
+
+module _ (e : Seen) (c : List ℕ) (s₀ : State) (f₀ : List ℕ) (n₀ : ℕ) where
+  -- refusals 1, 2, 3 before anything is read
+  pub turned-away :
+      (m : ℕ)
+      → m ≡ refusalOf (length f₀) (length (e .half)) (length (e .full))
+      → (m ≡ 0 → ⊥)
+      → halted s₀ f₀ n₀ m ≡ replayed e c s₀ f₀ n₀
+  unfolding replayed
+  turned-away m is h = rw (← is, ne-eqb m 0 h)
+
+  pub let-in :
+      (m : ℕ)
+      → m ≡ refusalOf (length f₀) (length (e .half)) (length (e .full))
+      → m ≡ 0
+      → obeyedAll e (contents c) s₀ f₀ n₀ ≡ replayed e c s₀ f₀ n₀
+  unfolding replayed
+  let-in m is h = rw (← is, eq-eqb m 0 h)
+
+  pub record Going (s : State) (f : List ℕ) (n at : ℕ) : Type 0 where
+    pub within : at ≤ length c
+    pub placed : n ≤ n₀ + at
+    pub valid : Valid s
+    pub framed : length f ≡ length f₀
+    pub before : List Answered
+    pub same : obeyedAll e (contents c) s₀ f₀ n₀ ≡ afterAnswers before (obeyedAll e (contents (drop at c)) s f n)
+
+  unfoldable pub begins : Valid s₀ → Going s₀ f₀ n₀ 0
+  begins v = record { within = omega arith; placed = omega arith; valid = v; framed = refl; before = []; same = refl }
+
+  module _ {s : State} {f : List ℕ} {n at : ℕ} (g : Going s f n at) where
+    pub long : {kind value : ℕ} → answerAt c at ≡ Record kind value → at + 4 ≤ length c
+    long h = omega (arith, record-within (drop at c) h, length-drop at c, g .within)
+
+    unfoldable pub turns :
+        {kind value : ℕ} (k : Called)
+        → answerAt c at ≡ Record kind value
+        → k ≡ recorded e kind value s f
+        → k .number ≡ 0
+        → Valid (k .state)
+        → Going (k .state) (k .frame) (n + 1) (at + 4)
+    turns {kind} {value} k h is z v = record {
+      within = long h;
+      placed = omega (arith, g .placed);
+      valid = v;
+      framed = ap (λ (x : Called). length (x .frame)) is ∙ recorded-length e kind value s f ∙ g .framed;
+      before = g .before ++ (answered kind k ∷ []);
+      same = g .same ∙ ap (afterAnswers (g .before)) (obeyed-record e c s f n at k h is z) ∙ one-more (g .before) (answered kind k) _;
+    }
+
+    -- a record that is refused: the answers so far, and where the replay stands
+    pub refused-here :
+        {kind value : ℕ} (k : Called)
+        → answerAt c at ≡ Record kind value
+        → k ≡ recorded e kind value s f
+        → (k .number ≡ 0 → ⊥)
+        → afterAnswers (g .before) (halted s (k .frame) n (k .number)) ≡ obeyedAll e (contents c) s₀ f₀ n₀
+    refused-here {kind} {value} k h is z =
+        let still : k ≡ refused s f (k .number) = is ∙ recorded-unmoved e kind value s f (λ y. z (ap (λ (x : Called). x .number) is ∙ y)) ∙ ap (λ (x : Called). refused s f (x .number)) (sym is) in
+        ap (λ (x : Called). afterAnswers (g .before) (halted s (x .frame) n (k .number))) still
+        ∙ sym (g .same ∙ ap (afterAnswers (g .before)) (obeyed-refused e c s f n at k h is z))
+
+    pub refuses :
+        {kind value : ℕ} (k : Called)
+        → answerAt c at ≡ Record kind value
+        → k ≡ recorded e kind value s f
+        → (k .number ≡ 0 → ⊥)
+        → endingAt s (k .frame) n (k .number) ≡ obeyedAll e (contents c) s₀ f₀ n₀ .ending
+    refuses k h is z = ap (λ (x : Replayed). x .ending) (refused-here k h is z)
+
+    -- what is no record
+    pub stopped-here :
+        (m : ℕ)
+        → passed (answerAt c at) ≡ 0
+        → m ≡ number (answerAt c at)
+        → afterAnswers (g .before) (halted s f n m) ≡ obeyedAll e (contents c) s₀ f₀ n₀
+    stopped-here m h is =
+        ap (λ (x : ℕ). afterAnswers (g .before) (halted s f n x)) is
+        ∙ sym (g .same ∙ ap (afterAnswers (g .before)) (obeyed-stop e c s f n at h))
+
+    pub stops : (m : ℕ) → passed (answerAt c at) ≡ 0 → m ≡ number (answerAt c at) → endingAt s f n m ≡ obeyedAll e (contents c) s₀ f₀ n₀ .ending
+    stops m h is = ap (λ (x : Replayed). x .ending) (stopped-here m h is)

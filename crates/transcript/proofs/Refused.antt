@@ -1,0 +1,106 @@
+-- Laws of a record: a refused one has no effect, a frame keeps its length, and no count passes that of the frame's bytes.
+use Prim.Native.Nat.{ℕ, zero, suc, _+_, _*_, _≤_}
+use mathlib.Core.Bool.{Bool, true, false}
+use mathlib.Core.List.{List}
+use mathlib.Core.Path.{_≡_, refl, sym, ap, _∙_}
+use native.Mathlib.Omega.{arith}
+use borrow.Author.Tests.{eqb-false, eq-eqb, ne-eqb}
+use lib.Dec.{eqb}
+use lib.ListN.{length}
+use Rattle.base.specs.Choice.{if_then_else_}
+use Rattle.base.specs.Bits as bits
+use Rattle.base.proofs.Choice.{either, either-told}
+use Rattle.base.proofs.Counting.{count-le}
+use Rattle.base.proofs.Painting.{painted-length}
+use Rattle.picture.specs.Picture.{Seen}
+use Rattle.picture.specs.Refusals.{refusalOf}
+use Rattle.repaint.specs.Repaint.{repainted, countNamed}
+use Rattle.panel.specs.State.{State, Valid}
+use Rattle.panel.specs.Calls.{Call, bit, Taken, otherLink, taken, takenBy, Called, refused, unlessOther, called}
+use Rattle.transcript.specs.Records.{unheard, counted, heard, eightBits, recorded}
+
+-- a call that is refused leaves what a refusal leaves
+abbrev pub Unmoved : State → List ℕ → Called → Type 0
+Unmoved s frame k = (k .number ≡ 0 → ⊥) → k ≡ refused s frame (k .number)
+
+other-unmoved : (e : Seen) (s : State) (frame : List ℕ) (t : Taken) → Unmoved s frame (unlessOther e s frame t)
+other-unmoved e s frame otherLink h = refl
+other-unmoved e s frame (taken x) h = absurd (h refl)
+
+pub called-unmoved : (e : Seen) (s : State) (frame : List ℕ) (call : Call) → Unmoved s frame (called e s frame call)
+unfolding called
+called-unmoved e s frame call =
+    either (Unmoved s frame) (eqb (refusalOf (length frame) (length (e .half)) (length (e .full))) 0)
+    (other-unmoved e s frame (takenBy (s .memories) (s .control) (s .link) call))
+    (λ h. refl)
+
+other-count : (e : Seen) (s : State) (frame : List ℕ) (t : Taken) → unlessOther e s frame t .count ≤ 1024
+unfolding countNamed
+other-count e s frame otherLink = omega arith
+other-count e s frame (taken x) = count-le 1024 _
+
+pub called-count : (e : Seen) (s : State) (frame : List ℕ) (call : Call) → called e s frame call .count ≤ 1024
+unfolding called
+called-count e s frame call =
+    either (λ (k : Called). k .count ≤ 1024) (eqb (refusalOf (length frame) (length (e .half)) (length (e .full))) 0)
+    (other-count e s frame (takenBy (s .memories) (s .control) (s .link) call))
+    (omega arith)
+
+other-length : (e : Seen) (s : State) (frame : List ℕ) (t : Taken) → length (unlessOther e s frame t .frame) ≡ length frame
+unfolding repainted
+other-length e s frame otherLink = refl
+other-length e s frame (taken x) = painted-length _ _ frame
+
+pub called-length : (e : Seen) (s : State) (frame : List ℕ) (call : Call) → length (called e s frame call .frame) ≡ length frame
+unfolding called
+called-length e s frame call =
+    either (λ (k : Called). length (k .frame) ≡ length frame) (eqb (refusalOf (length frame) (length (e .half)) (length (e .full))) 0)
+    (other-length e s frame (takenBy (s .memories) (s .control) (s .link) call))
+    refl
+
+-- what is heard is no refusal
+heard-accepted : (e : Seen) (value left : ℕ) (s : State) (frame : List ℕ) → heard e value left s frame .number ≡ 0
+unfolding heard
+heard-accepted e value zero s frame = refl
+heard-accepted e value (suc left) s frame = heard-accepted e value left _ _
+
+pub eight-unmoved : (e : Seen) (value : ℕ) (s : State) (frame : List ℕ) → Unmoved s frame (eightBits e value s frame)
+unfolding eightBits
+eight-unmoved e value s frame =
+    either (Unmoved s frame) (eqb (called e s frame (bit (bits.bit 7 value)) .number) 0)
+    (λ h. absurd (h (heard-accepted e value 8 s frame)))
+    (λ h. refl)
+
+heard-length : (e : Seen) (value left : ℕ) (s : State) (frame : List ℕ) → length (heard e value left s frame .frame) ≡ length frame
+unfolding heard
+heard-length e value zero s frame = refl
+heard-length e value (suc left) s frame = heard-length e value left _ _ ∙ called-length e s frame _
+
+eight-length : (e : Seen) (value : ℕ) (s : State) (frame : List ℕ) → length (eightBits e value s frame .frame) ≡ length frame
+unfolding eightBits
+eight-length e value s frame =
+    either (λ (k : Called). length (k .frame) ≡ length frame) (eqb (called e s frame (bit (bits.bit 7 value)) .number) 0)
+    (heard-length e value 8 s frame)
+    refl
+
+-- what holds after every call and after eight bits holds after every record
+of-each :
+    (P : Called → Type 0) (e : Seen) (kind value : ℕ) (s : State) (frame : List ℕ)
+    → ((call : Call) → P (called e s frame call))
+    → P (eightBits e value s frame)
+    → P (recorded e kind value s frame)
+unfolding recorded
+of-each P e kind value s frame p q =
+    either P (eqb kind 0) (p _)
+    (either P (eqb kind 1) (p _)
+    (either P (eqb kind 2) (p _)
+    (either P (eqb kind 3) (p _) (either P (eqb kind 4) q (either P (eqb kind 5) (p _) (p _))))))
+
+-- earlier records stand, the refused one has no effect
+pub recorded-unmoved : (e : Seen) (kind value : ℕ) (s : State) (frame : List ℕ) → Unmoved s frame (recorded e kind value s frame)
+recorded-unmoved e kind value s frame =
+    of-each (Unmoved s frame) e kind value s frame (called-unmoved e s frame) (eight-unmoved e value s frame)
+
+pub recorded-length : (e : Seen) (kind value : ℕ) (s : State) (frame : List ℕ) → length (recorded e kind value s frame .frame) ≡ length frame
+recorded-length e kind value s frame =
+    of-each (λ (k : Called). length (k .frame) ≡ length frame) e kind value s frame (called-length e s frame) (eight-length e value s frame)

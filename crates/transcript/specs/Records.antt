@@ -1,0 +1,42 @@
+-- Document 01, "Captures": what a record's kind and value ask of a panel.
+use Prim.Native.Nat.{ℕ, zero, suc, _+_}
+use mathlib.Core.List.{List}
+use lib.Dec.{eqb}
+use Rattle.base.specs.Choice.{if_then_else_}
+use Rattle.base.specs.Bits as bits
+use Rattle.links.specs.declared.Transfer.the-variants.{Instruct, Write, Status, Read}
+use Rattle.picture.specs.Picture.{Seen}
+use Rattle.panel.specs.State.{State}
+use Rattle.panel.specs.Calls.{transfer, bit, selectLow, reset, Called, refused, called}
+
+-- no bit: nothing changes, and nothing is counted
+abbrev pub unheard : State → List ℕ → Called
+unheard s frame = record { state = s; number = 0; reply = 0; count = 0; frame = frame }
+
+-- with the count of a bit before
+abbrev pub counted : ℕ → Called → Called
+counted n k = record { state = k .state; number = k .number; reply = k .reply; count = n + k .count; frame = k .frame }
+
+-- the lowest bits of a value, as many as are left, highest first; their counts are summed
+unfoldable pub heard : Seen → ℕ → ℕ → State → List ℕ → Called
+heard e value zero s frame = unheard s frame
+heard e value (suc left) s frame =
+    counted (called e s frame (bit (bits.bit left value)) .count)
+    (heard e value left (called e s frame (bit (bits.bit left value)) .state) (called e s frame (bit (bits.bit left value)) .frame))
+
+-- kind 4: refused as its first bit is, and then no bit is heard; else all eight are
+unfoldable pub eightBits : Seen → ℕ → State → List ℕ → Called
+eightBits e value s frame =
+    if eqb (called e s frame (bit (bits.bit 7 value)) .number) 0 then heard e value 8 s frame
+    else refused s frame (called e s frame (bit (bits.bit 7 value)) .number)
+
+-- kinds: 0 instruction write, 1 data write, 2 status read, 3 data read, 4 eight serial bits, 5 chip select low, 6 reset
+unfoldable pub recorded : Seen → ℕ → ℕ → State → List ℕ → Called
+recorded e kind value s frame =
+    if eqb kind 0 then called e s frame (transfer (Instruct value))
+    else if eqb kind 1 then called e s frame (transfer (Write value))
+    else if eqb kind 2 then called e s frame (transfer Status)
+    else if eqb kind 3 then called e s frame (transfer Read)
+    else if eqb kind 4 then eightBits e value s frame
+    else if eqb kind 5 then called e s frame selectLow
+    else called e s frame (reset (eqb value 1))

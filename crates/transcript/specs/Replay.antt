@@ -1,0 +1,73 @@
+-- Document 01, "Captures": replay goes on until the first refusal, and answers with the place where it stopped.
+use Prim.Native.Nat.{ℕ, _+_}
+use mathlib.Core.List.{List, [], _∷_}
+use lib.ListN.{length}
+use lib.Dec.{eqb}
+use Rattle.base.specs.Choice.{if_then_else_}
+use Rattle.picture.specs.Picture.{Seen}
+use Rattle.picture.specs.Refusals.{refusalOf}
+use Rattle.panel.specs.State.{State, stateOf}
+use Rattle.panel.specs.Calls.{Called}
+use Rattle.capture.specs.Record.{number}
+use Rattle.capture.specs.Capture.{Recorded, Contents, contents}
+use Rattle.transcript.specs.declared.Stop.{Stop}
+use Rattle.transcript.specs.Records.{recorded}
+
+-- what an accepted record answers
+pub record Answered : Type 0 where
+  pub kind : ℕ
+  pub reply : ℕ
+  pub count : ℕ
+
+-- where a replay stands when it stops: the state, the frame, the records accepted, and the refusal number, 0 at the end
+pub record Ending : Type 0 where
+  pub state : State
+  pub frame : List ℕ
+  pub place : ℕ
+  pub number : ℕ
+
+abbrev pub endingAt : State → List ℕ → ℕ → ℕ → Ending
+endingAt s frame place number = record { state = s; frame = frame; place = place; number = number }
+
+-- a replay: the answers of its accepted records, and where it stops
+pub record Replayed : Type 0 where
+  pub answers : List Answered
+  pub ending : Ending
+
+abbrev pub halted : State → List ℕ → ℕ → ℕ → Replayed
+halted s frame place number = record { answers = []; ending = endingAt s frame place number }
+
+abbrev pub answer : ℕ → ℕ → ℕ → Answered
+answer kind reply count = record { kind = kind; reply = reply; count = count }
+
+abbrev pub answered : ℕ → Called → Answered
+answered kind k = answer kind (k .reply) (k .count)
+
+abbrev pub afterAnswer : Answered → Replayed → Replayed
+afterAnswer a on = record { answers = a ∷ on .answers; ending = on .ending }
+
+-- an accepted record answers, and the replay goes on; a refused one has no effect
+abbrev pub goesOn : State → List ℕ → ℕ → ℕ → Called → Replayed → Replayed
+goesOn s frame place kind k on =
+    if eqb (k .number) 0 then afterAnswer (answered kind k) on
+    else halted s frame place (k .number)
+
+-- one record after another, each on what the ones before it left; behind the last, what stands there in the capture
+unfoldable pub obeyed : Seen → ℕ → List Recorded → State → List ℕ → ℕ → Replayed
+obeyed e last [] s frame place = halted s frame place last
+obeyed e last (r ∷ rs) s frame place =
+    goesOn s frame place (r .kind) (recorded e (r .kind) (r .value) s frame)
+    (obeyed e last rs (recorded e (r .kind) (r .value) s frame .state) (recorded e (r .kind) (r .value) s frame .frame) (place + 1))
+
+abbrev pub obeyedAll : Seen → Contents → State → List ℕ → ℕ → Replayed
+obeyedAll e c s frame place = obeyed e (number (c .stop)) (c .records) s frame place
+
+-- a replay from a number of accepted records on: refusals 1, 2, 3 before anything is read
+unfoldable pub replayed : Seen → List ℕ → State → List ℕ → ℕ → Replayed
+replayed e capture s frame place =
+    if eqb (refusalOf (length frame) (length (e .half)) (length (e .full))) 0 then obeyedAll e (contents capture) s frame place
+    else halted s frame place (refusalOf (length frame) (length (e .half)) (length (e .full)))
+
+-- where a replay by value stops
+abbrev pub stopsAt : Stop → List ℕ → Ending
+stopsAt r frame = endingAt (stateOf (r .panel)) frame (r .place) (r .number)
