@@ -155,17 +155,39 @@ unlessOther-count : (e : Seen) (s : State) (frame : List ℕ) (t : Taken) → un
 unlessOther-count e s frame otherLink = refl
 unlessOther-count e s frame (taken x) = refl
 
--- whatever link the call comes over
+-- so a bound on the transfer is a bound on the call, whatever link it comes over
+carried-count :
+    (e : Seen) (s : State) (frame : List ℕ) (call : Call) (t : Transfer) (n : ℕ)
+    → carries (s .control) (s .link) call ≡ whole t
+    → countOf (carriedOut (s .memories) (s .control) t) ≤ n
+    → called e s frame call .count ≤ n
+unfolding called
+carried-count e s frame call t n k h =
+    either (λ (x : Called). x .count ≤ n) (eqb (refusalOf (length frame) (length (e .half)) (length (e .full))) 0)
+    (subst (λ (m : ℕ). m ≤ n)
+    (sym
+    (unlessOther-count e s frame (takenBy (s .memories) (s .control) (s .link) call)
+    ∙ taken-carried (s .memories) (s .control) (s .link) call t k))
+    h)
+    (omega arith)
+
+-- with S = 0 a call that carries out a data transfer names at most 64
 pub called-count :
     (e : Seen) (s : State) (frame : List ℕ) (call : Call) (t : Transfer)
     → carries (s .control) (s .link) call ≡ whole t
     → isData t ≡ true
     → s .control .entry .s ≡ false
     → called e s frame call .count ≤ 64
-unfolding called
 called-count e s frame call t k d z =
-    either (λ (x : Called). x .count ≤ 64) (eqb (refusalOf (length frame) (length (e .half)) (length (e .full))) 0)
-    (subst (λ (n : ℕ). n ≤ 64)
-    (sym (unlessOther-count e s frame (takenBy (s .memories) (s .control) (s .link) call) ∙ taken-carried (s .memories) (s .control) (s .link) call t k))
-    (data-count (s .memories) (s .control) t d z))
-    (omega arith)
+    carried-count e s frame call t 64 k (data-count (s .memories) (s .control) t d z)
+
+-- and one that carries out a write at most 64, 32 or 1, by the target
+pub called-write-count :
+    (e : Seen) (s : State) (frame : List ℕ) (call : Call) (byte : ℕ)
+    → carries (s .control) (s .link) call ≡ whole (Write byte)
+    → s .control .entry .s ≡ false
+    → called e s frame call .count ≤ writeBound (s .control .place .target)
+unfolding carriedOut
+called-write-count e s frame call byte k z =
+    carried-count e s frame call (Write byte) (writeBound (s .control .place .target)) k
+    (written-count (s .memories) (s .control) byte z)
