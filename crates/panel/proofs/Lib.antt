@@ -1,12 +1,4 @@
 pub mod Kept
-pub mod Repainted
-pub mod Bounded
-pub mod Sequences
 pub mod Widths
-pub mod ButDl
-pub mod Heard
-pub mod Connected
-pub mod Agreement
-pub mod KeepDl
 pub mod Doors
 pub mod Fit

@@ -24,9 +24,9 @@ use Rattle.links.specs.Halves as halves
 use Rattle.links.specs.Items.{WholeWrite}
 use Rattle.links.specs.Connector.{act, bytes, halves, serial, HasDl}
 use Rattle.picture.specs.Picture.{Seen}
 use Rattle.panel.specs.Steps.{carriedOut}
-use Rattle.panel.specs.Wires.{Board, begun, items, board, SetsDl}
-use Rattle.panel.specs.Agreement.{FunctionSetsKeepDl}
+use Rattle.sequences.specs.Wires.{Board, begun, items, board, SetsDl}
+use Rattle.sequences.specs.Agreement.{FunctionSetsKeepDl}
 
 -- an instruction that is a function set has this DL
 abbrev Has : Bool → Instruction → Type 0

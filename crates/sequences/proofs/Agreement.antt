@@ -15,13 +15,13 @@ use Rattle.links.specs.Items.{WholeWrite}
 use Rattle.links.specs.Connector.{act, inTurn, does, Way, bytes, halves, serial, HasDl, KeepsDl}
 use Rattle.links.proofs.Agreement.{alike-does}
 use Rattle.picture.specs.Picture.{Seen}
 use Rattle.panel.specs.State.{State, state}
 use Rattle.panel.specs.Calls.{Call, called, Stands, after}
-use Rattle.panel.specs.Wires.{callsOf, onward, spelt, idleOn, resting, syncAfter, Fits, answers, numbersOf, countsOf, countsByWrite, sum}
-use Rattle.panel.specs.Wires.{callsBefore, lastAlone, Board, begun, items, board, given, onLink, standing, withDl}
-use Rattle.panel.specs.Agreement.{ReceivedAsGiven, SentIsReceived, WritesAreReceived, LinksAgree}
-use Rattle.panel.proofs.ButDl.{boardButDl, board-respects}
-use Rattle.panel.proofs.Heard.{Leaves, countWritten, act-fits, WriteLeaves, byte-leaves, halves-leave, serial-leaves}
+use Rattle.sequences.specs.Wires.{callsOf, onward, spelt, idleOn, resting, syncAfter, Fits, answers, numbersOf, countsOf, countsByWrite, sum}
+use Rattle.sequences.specs.Wires.{callsBefore, lastAlone, Board, begun, items, board, given, onLink, standing, withDl}
+use Rattle.sequences.specs.Agreement.{ReceivedAsGiven, SentIsReceived, WritesAreReceived, LinksAgree}
+use Rattle.sequences.proofs.ButDl.{boardButDl, board-respects}
+use Rattle.sequences.proofs.Heard.{Leaves, countWritten, act-fits, WriteLeaves, byte-leaves, halves-leave, serial-leaves}
 
 -- some calls, then some more
 after-append :

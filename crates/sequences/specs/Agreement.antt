@@ -14,10 +14,10 @@ use Rattle.links.specs.declared.Sync.the-variants.{Lost}
 use Rattle.links.specs.Items.{WholeWrite, Alike}
 use Rattle.links.specs.Connector.{At, Replied, transferAt, bitAt, Way, serial, KeepsDl}
 use Rattle.picture.specs.Picture.{Seen}
 use Rattle.panel.specs.State.{State}
 use Rattle.panel.specs.Calls.{Call, transfer, bit, Called, called, after}
-use Rattle.panel.specs.Wires.{spelt, idleOn, resting, syncAfter, Fits, numbersOf, countsByWrite, sum, callsBefore, lastAlone}
-use Rattle.panel.specs.Wires.{Board, begun, items, board, given, onLink, standing, withDl, HasWidth, SetsWidth}
+use Rattle.sequences.specs.Wires.{spelt, idleOn, resting, syncAfter, Fits, numbersOf, countsByWrite, sum, callsBefore, lastAlone}
+use Rattle.sequences.specs.Wires.{Board, begun, items, board, given, onLink, standing, withDl, HasWidth, SetsWidth}
 
 -- an accepted call leaves this board on this link, and answers with this reply
 pub record Does (k : Called) (b : Board) (link : Link) (answer : ℕ) : Type 0 where
