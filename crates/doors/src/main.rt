@@ -1,13 +1,14 @@
 // Runs document 01's readings 3 and 5 through the panel's calls, with their counts, and every refusal of these calls. Beside a refusal
 // it prints how much of the lent frame was changed, and what a right call then answers on the panel that was handed on.
+use lent::Pin;
 use libc::STDOUT_FILENO;
 use links::Transfer;
 use panel::Made;
 use panel::Outcome;
 use panel::Panel;
-use panel::Pin;
 ghost use Prim.Native.Nat.{_≤_};
-ghost use Rattle.panel.specs.State.{stateOf, Valid};
+ghost use Rattle.lent.specs.State.{Valid};
+ghost use Rattle.panel.specs.Handed.{stateOf};
 
 // What a script's byte pairs say: a kind, as in captures, and a value.
 const INSTRUCT: u8 = 0;

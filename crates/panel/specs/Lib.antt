@@ -1,3 +1,1 @@
-pub mod State
-pub mod Steps
-pub mod Calls
+pub mod Handed

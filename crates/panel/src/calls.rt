@@ -3,15 +3,36 @@
 use crate::Made;
 use crate::Outcome;
 use crate::Panel;
-use crate::Pin;
-use crate::lent;
 use controller::Control;
+use lent::Answer;
+use lent::Pin;
 use links::Transfer;
 ghost use mathlib.Core.Path.{_≡_};
 ghost use Rattle.picture.specs.Picture.{seen};
 ghost use Rattle.picture.specs.Refusals.{leaves, drawn};
-ghost use Rattle.panel.specs.State.{stateOf, memoriesOf, freshState, Valid};
-ghost use Rattle.panel.specs.Calls.{transfer, bit, selectLow, reset, called, handed};
+ghost use Rattle.lent.specs.State.{freshState, Valid};
+ghost use Rattle.lent.specs.Calls.{transfer, bit, selectLow, reset, called};
+ghost use Rattle.panel.specs.Handed.{stateOf, memoriesOf, handed, together};
+
+// The memories as a call left them, and its answer, put together.
+fn handed_on(text: [u8; 128], glyph: [u8; 128], graphic: [u8; 2048], answer: Answer) -> Outcome
+    ensures { λ r. ⌜ r ≡ together text glyph graphic answer ⌝ }
+{
+    let control = answer.control;
+    let link = answer.link;
+    Outcome {
+        panel: Panel {
+            text,
+            glyph,
+            graphic,
+            control,
+            link,
+        },
+        number: answer.number,
+        reply: answer.reply,
+        count: answer.count,
+    }
+}
 
 impl Panel {
     // A panel as it is when it has just been made.
@@ -58,21 +79,7 @@ impl Panel {
             full,
             phase,
         );
-        let control = answer.control;
-        let link = answer.link;
-        let panel = Panel {
-            text,
-            glyph,
-            graphic,
-            control,
-            link,
-        };
-        Outcome {
-            panel,
-            number: answer.number,
-            reply: answer.reply,
-            count: answer.count,
-        }
+        handed_on(text, glyph, graphic, answer)
     }
 
     // One bit of the serial link, with chip select high.
@@ -105,21 +112,7 @@ impl Panel {
             full,
             phase,
         );
-        let control = answer.control;
-        let link = answer.link;
-        let panel = Panel {
-            text,
-            glyph,
-            graphic,
-            control,
-            link,
-        };
-        Outcome {
-            panel,
-            number: answer.number,
-            reply: answer.reply,
-            count: answer.count,
-        }
+        handed_on(text, glyph, graphic, answer)
     }
 
     // Chip select low on the serial link.
@@ -134,21 +127,7 @@ impl Panel {
         let now = self.control;
         let at = self.link;
         let answer = lent::select_low(&text, &glyph, &graphic, now, at, frame, half, full, phase);
-        let control = answer.control;
-        let link = answer.link;
-        let panel = Panel {
-            text,
-            glyph,
-            graphic,
-            control,
-            link,
-        };
-        Outcome {
-            panel,
-            number: answer.number,
-            reply: answer.reply,
-            count: answer.count,
-        }
+        handed_on(text, glyph, graphic, answer)
     }
 
     // Reset with the interface pin, on either link.
@@ -174,21 +153,7 @@ impl Panel {
             full,
             phase,
         );
-        let control = answer.control;
-        let link = answer.link;
-        let panel = Panel {
-            text,
-            glyph,
-            graphic,
-            control,
-            link,
-        };
-        Outcome {
-            panel,
-            number: answer.number,
-            reply: answer.reply,
-            count: answer.count,
-        }
+        handed_on(text, glyph, graphic, answer)
     }
 
     // The whole picture, drawn afresh into the frame; answers the refusal number.

@@ -7,7 +7,8 @@ use panel::Panel;
 use transcript::Stop;
 ghost use Prim.Native.Nat.{_+_, _≤_, _<_, _^_};
 ghost use lib.ListN.{length};
-ghost use Rattle.panel.specs.State.{stateOf, Valid};
+ghost use Rattle.lent.specs.State.{Valid};
+ghost use Rattle.panel.specs.Handed.{stateOf};
 ghost use Rattle.transcript.specs.Text.{Counts};
 
 // How many bytes came, and whether a read failed.

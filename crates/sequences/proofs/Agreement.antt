@@ -15,8 +15,8 @@ use Rattle.links.specs.Items.{WholeWrite}
 use Rattle.links.specs.Connector.{act, inTurn, does, Way, bytes, halves, serial, HasDl, KeepsDl}
 use Rattle.links.proofs.Agreement.{alike-does}
 use Rattle.picture.specs.Picture.{Seen}
-use Rattle.panel.specs.State.{State, state}
-use Rattle.panel.specs.Calls.{Call, called, Stands, after}
+use Rattle.lent.specs.State.{State, state}
+use Rattle.lent.specs.Calls.{Call, called, Stands, after}
 use Rattle.sequences.specs.Wires.{callsOf, onward, spelt, idleOn, resting, syncAfter, Fits, answers, numbersOf, countsOf, countsByWrite, sum}
 use Rattle.sequences.specs.Wires.{callsBefore, lastAlone, Board, begun, items, board, given, onLink, standing, withDl}
 use Rattle.sequences.specs.Agreement.{ReceivedAsGiven, SentIsReceived, WritesAreReceived, LinksAgree}

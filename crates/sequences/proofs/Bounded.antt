@@ -36,9 +36,9 @@ use Rattle.picture.specs.Picture.{Seen}
 use Rattle.picture.specs.Refusals.{refusalOf}
 use Rattle.repaint.specs.Repaint.{named, countNamed}
 use Rattle.repaint.proofs.Counts.{count-cells, count-glyph, count-graphic, count-nothing}
-use Rattle.panel.specs.State.{State}
-use Rattle.panel.specs.Steps.{Stepped, carriedOut, halfStep, transferStep, receivedActs, bitStep}
-use Rattle.panel.specs.Calls.{Call, transfer, bit, selectLow, reset, Taken, otherLink, taken, takenBy, Called, unlessOther, called}
+use Rattle.lent.specs.State.{State}
+use Rattle.lent.specs.Steps.{Stepped, carriedOut, halfStep, transferStep, receivedActs, bitStep}
+use Rattle.lent.specs.Calls.{Call, transfer, bit, selectLow, reset, Taken, otherLink, taken, takenBy, Called, unlessOther, called}
 use Rattle.sequences.specs.Carried.{Carried, nothing, whole, halfCarries, receivedCarries, carries, isData}
 
 -- the count of what a transfer names

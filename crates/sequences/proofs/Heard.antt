@@ -36,9 +36,9 @@ use Rattle.links.proofs.WriteHeard.{last-bit-acts}
 use Rattle.picture.specs.Picture.{Seen}
 use Rattle.repaint.specs.Repaint.{named, repainted, countNamed}
 use Rattle.repaint.proofs.Counts.{count-nothing}
-use Rattle.panel.specs.State.{State, state}
-use Rattle.panel.specs.Steps.{stepped, carriedOut, unmoved, halfStep, transferStep, receivedActs, bitStep}
-use Rattle.panel.specs.Calls.{Call, transfer, bit, takenBy, Called, accepted, unlessOther, called, after}
+use Rattle.lent.specs.State.{State, state}
+use Rattle.lent.specs.Steps.{stepped, carriedOut, unmoved, halfStep, transferStep, receivedActs, bitStep}
+use Rattle.lent.specs.Calls.{Call, transfer, bit, takenBy, Called, accepted, unlessOther, called, after}
 use Rattle.sequences.specs.Wires.{byByte, byHalves, byBits, Fits, answers, numbersOf, countsOf, lastAlone, Board, board, onLink, standing}
 use Rattle.sequences.proofs.Bounded.{countOf}
 

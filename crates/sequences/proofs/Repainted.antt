@@ -35,10 +35,10 @@ use Rattle.picture.specs.Picture.{Seen, byteAt, atPlace, picture}
 use Rattle.picture.specs.Refusals.{refusalOf}
 use Rattle.repaint.specs.Repaint.{named, repainted}
 use Rattle.repaint.proofs.Unnamed.{never-whole, obeyed-unnamed, written-unnamed, readOut-unnamed}
-use Rattle.panel.specs.State.{State, Valid}
-use Rattle.panel.specs.Steps.{Stepped, carriedOut, unmoved, halfStep, transferStep, receivedActs, bitStep, selectLowStep, resetStep}
-use Rattle.panel.specs.Calls.{Call, transfer, bit, selectLow, reset, Taken, otherLink, taken, takenBy, Called, unlessOther, called}
-use Rattle.panel.proofs.Kept.{called-valid}
+use Rattle.lent.specs.State.{State, Valid}
+use Rattle.lent.specs.Steps.{Stepped, carriedOut, unmoved, halfStep, transferStep, receivedActs, bitStep, selectLowStep, resetStep}
+use Rattle.lent.specs.Calls.{Call, transfer, bit, selectLow, reset, Taken, otherLink, taken, takenBy, Called, unlessOther, called}
+use Rattle.lent.proofs.Kept.{called-valid}
 
 -- the bytes that are not named in what a transfer leaves are those of the picture of m and c
 abbrev pub UnnamedKept : Seen → Memories → Control → Acted → Type 0

@@ -3,9 +3,9 @@ use Prim.Native.Nat.{ℕ}
 use mathlib.Core.List.{List, [], _∷_}
 use mathlib.Core.Path.{_≡_, refl, _∙_, ap}
 use Rattle.picture.specs.Picture.{Seen, picture}
-use Rattle.panel.specs.State.{State, Valid}
-use Rattle.panel.specs.Calls.{Call, called, Stands, after}
-use Rattle.panel.proofs.Kept.{called-valid}
+use Rattle.lent.specs.State.{State, Valid}
+use Rattle.lent.specs.Calls.{Call, called, Stands, after}
+use Rattle.lent.proofs.Kept.{called-valid}
 use Rattle.sequences.proofs.Repainted.{called-shows}
 
 pub after-valid : (e : Seen) (s : State) (frame : List ℕ) (calls : List Call) → Valid s → Valid (after e s frame calls .state)

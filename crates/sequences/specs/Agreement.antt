@@ -14,8 +14,8 @@ use Rattle.links.specs.declared.Sync.the-variants.{Lost}
 use Rattle.links.specs.Items.{WholeWrite, Alike}
 use Rattle.links.specs.Connector.{At, Replied, transferAt, bitAt, Way, serial, KeepsDl}
 use Rattle.picture.specs.Picture.{Seen}
-use Rattle.panel.specs.State.{State}
-use Rattle.panel.specs.Calls.{Call, transfer, bit, Called, called, after}
+use Rattle.lent.specs.State.{State}
+use Rattle.lent.specs.Calls.{Call, transfer, bit, Called, called, after}
 use Rattle.sequences.specs.Wires.{spelt, idleOn, resting, syncAfter, Fits, numbersOf, countsByWrite, sum, callsBefore, lastAlone}
 use Rattle.sequences.specs.Wires.{Board, begun, items, board, given, onLink, standing, withDl, HasWidth, SetsWidth}
 

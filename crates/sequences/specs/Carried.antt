@@ -13,7 +13,7 @@ use Rattle.links.specs.declared.Received.{Received}
 use Rattle.links.specs.declared.Received.the-variants as received
 use Rattle.links.specs.Halves.{paired, written}
 use Rattle.links.specs.Serial.{heard}
-use Rattle.panel.specs.Calls.{Call, transfer, bit, selectLow, reset}
+use Rattle.lent.specs.Calls.{Call, transfer, bit, selectLow, reset}
 
 pub data Carried : Type 0 where
   nothing : Carried

@@ -24,10 +24,10 @@ use Rattle.links.specs.Connector.{Answered, Controller, Way, bytes, halves, ser
 use Rattle.picture.specs.Picture.{Seen}
 use Rattle.picture.specs.Refusals.{refusalOf}
 use Rattle.repaint.specs.Repaint.{repainted, countNamed}
-use Rattle.panel.specs.State.{State, state}
-use Rattle.panel.specs.Steps.{carriedOut}
-use Rattle.panel.specs.Calls as calls
-use Rattle.panel.specs.Calls.{Call, transfer, Called, called, Stands, after}
+use Rattle.lent.specs.State.{State, state}
+use Rattle.lent.specs.Steps.{carriedOut}
+use Rattle.lent.specs.Calls as calls
+use Rattle.lent.specs.Calls.{Call, transfer, Called, called, Stands, after}
 
 -- the calls of a write: one transfer of its byte
 abbrev pub byByte : WholeWrite → List Call

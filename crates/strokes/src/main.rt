@@ -11,7 +11,8 @@ ghost use Prim.Native.Nat.{_<_, _≤_};
 ghost use mathlib.Core.Path.{_≡_};
 ghost use lib.ListN.{length};
 ghost use Rattle.controller.specs.State.{InRange};
-ghost use Rattle.panel.specs.State.{stateOf, Valid};
+ghost use Rattle.lent.specs.State.{Valid};
+ghost use Rattle.panel.specs.Handed.{stateOf};
 
 const TIMES: u32 = 1000000;
 
@@ -50,7 +51,7 @@ fn on_lent() -> u64 {
     let mut i: u32 = 0;
     while i < TIMES {
         let byte = (i % 128) as u8;
-        let answer = panel::lent::transfer(
+        let answer = lent::transfer(
             &mut text,
             &mut glyph,
             &mut graphic,

@@ -11,8 +11,8 @@ use lib.ListN.{length}
 use Rattle.base.specs.Choice.{if_then_else_}
 use Rattle.base.specs.Bits as bits
 use Rattle.picture.specs.Picture.{Seen}
-use Rattle.panel.specs.State.{State, Valid}
-use Rattle.panel.specs.Calls.{bit, Called, refused, called}
+use Rattle.lent.specs.State.{State, Valid}
+use Rattle.lent.specs.Calls.{bit, Called, refused, called}
 use Rattle.transcript.specs.Records.{counted, heard, eightBits}
 use Rattle.transcript.proofs.Refused.{called-unmoved, called-count, called-length}
 

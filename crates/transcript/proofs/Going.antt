@@ -7,8 +7,8 @@ use borrow.Author.Tests.{eq-eqb, ne-eqb}
 use lib.ListN.{length, drop, length-drop}
 use Rattle.picture.specs.Picture.{Seen}
 use Rattle.picture.specs.Refusals.{refusalOf}
-use Rattle.panel.specs.State.{State, Valid}
-use Rattle.panel.specs.Calls.{Called, refused}
+use Rattle.lent.specs.State.{State, Valid}
+use Rattle.lent.specs.Calls.{Called, refused}
 use Rattle.capture.specs.declared.Answer.{Answer}
 use Rattle.capture.specs.declared.Answer.the-variants.{Record}
 use Rattle.capture.specs.Record.{number}

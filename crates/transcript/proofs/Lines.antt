@@ -7,8 +7,8 @@ use native.Mathlib.Omega.{arith}
 use lib.ListN.{length, take, length-append}
 use Rattle.picture.specs.Picture.{Seen}
 use Rattle.picture.specs.Refusals.{refusalOf}
-use Rattle.panel.specs.State.{State, Valid}
-use Rattle.panel.specs.Calls.{Called}
+use Rattle.lent.specs.State.{State, Valid}
+use Rattle.lent.specs.Calls.{Called}
 use Rattle.capture.specs.declared.Answer.the-variants.{Record}
 use Rattle.capture.specs.Record.{number}
 use Rattle.capture.specs.Capture.{contents, answerAt, passed}

@@ -5,8 +5,8 @@ use mathlib.Core.Path.{_≡_}
 use borrow.Author.Tests.{ne-eqb}
 use lib.Dec.{eqb}
 use Rattle.picture.specs.Picture.{Seen}
-use Rattle.panel.specs.State.{State}
-use Rattle.panel.specs.Calls.{reset, called}
+use Rattle.lent.specs.State.{State}
+use Rattle.lent.specs.Calls.{reset, called}
 use Rattle.transcript.specs.Records.{recorded}
 
 pub others-reset :

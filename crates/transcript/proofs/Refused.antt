@@ -15,8 +15,8 @@ use Rattle.base.proofs.Painting.{painted-length}
 use Rattle.picture.specs.Picture.{Seen}
 use Rattle.picture.specs.Refusals.{refusalOf}
 use Rattle.repaint.specs.Repaint.{repainted, countNamed}
-use Rattle.panel.specs.State.{State, Valid}
-use Rattle.panel.specs.Calls.{Call, bit, Taken, otherLink, taken, takenBy, Called, refused, unlessOther, called}
+use Rattle.lent.specs.State.{State, Valid}
+use Rattle.lent.specs.Calls.{Call, bit, Taken, otherLink, taken, takenBy, Called, refused, unlessOther, called}
 use Rattle.transcript.specs.Records.{unheard, counted, heard, eightBits, recorded}
 
 -- a call that is refused leaves what a refusal leaves

@@ -6,8 +6,8 @@ use Rattle.base.specs.Choice.{if_then_else_}
 use Rattle.base.specs.Bits as bits
 use Rattle.links.specs.declared.Transfer.the-variants.{Instruct, Write, Status, Read}
 use Rattle.picture.specs.Picture.{Seen}
-use Rattle.panel.specs.State.{State}
-use Rattle.panel.specs.Calls.{transfer, bit, selectLow, reset, Called, refused, called}
+use Rattle.lent.specs.State.{State}
+use Rattle.lent.specs.Calls.{transfer, bit, selectLow, reset, Called, refused, called}
 
 -- no bit: nothing changes, and nothing is counted
 abbrev pub unheard : State → List ℕ → Called

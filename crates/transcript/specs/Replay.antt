@@ -6,8 +6,9 @@ use lib.Dec.{eqb}
 use Rattle.base.specs.Choice.{if_then_else_}
 use Rattle.picture.specs.Picture.{Seen}
 use Rattle.picture.specs.Refusals.{refusalOf}
-use Rattle.panel.specs.State.{State, stateOf}
-use Rattle.panel.specs.Calls.{Called}
+use Rattle.lent.specs.State.{State}
+use Rattle.panel.specs.Handed.{stateOf}
+use Rattle.lent.specs.Calls.{Called}
 use Rattle.capture.specs.Record.{number}
 use Rattle.capture.specs.Capture.{Recorded, Contents, contents}
 use Rattle.transcript.specs.declared.Stop.{Stop}

@@ -1,12 +1,12 @@
 // One record of a capture, carried out on a panel.
+use lent::Pin;
 use links::Transfer;
 use panel::Outcome;
 use panel::Panel;
-use panel::Pin;
 ghost use mathlib.Core.Path.{_≡_};
 ghost use Rattle.picture.specs.Picture.{seen};
-ghost use Rattle.panel.specs.State.{stateOf, Valid};
-ghost use Rattle.panel.specs.Calls.{handed};
+ghost use Rattle.lent.specs.State.{Valid};
+ghost use Rattle.panel.specs.Handed.{stateOf, handed};
 ghost use Rattle.transcript.specs.Records.{eightBits, recorded};
 
 // Eight bits of the serial link, highest first. On the other link the first is refused, and none is heard.

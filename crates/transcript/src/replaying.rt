@@ -6,7 +6,8 @@ use panel::Panel;
 use picture::refusals::refusal;
 ghost use mathlib.Core.Path.{_≡_};
 ghost use Rattle.picture.specs.Picture.{seen};
-ghost use Rattle.panel.specs.State.{stateOf, Valid};
+ghost use Rattle.lent.specs.State.{Valid};
+ghost use Rattle.panel.specs.Handed.{stateOf};
 ghost use Rattle.transcript.specs.Replay.{replayed, stopsAt};
 
 // Replays a capture until the first refusal: the records before it stand, and it has no effect itself.

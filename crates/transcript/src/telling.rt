@@ -10,7 +10,8 @@ ghost use mathlib.Core.Path.{_≡_};
 ghost use Prim.Native.Nat.{_+_, _*_, _≤_, _<_, _^_};
 ghost use lib.ListN.{length};
 ghost use Rattle.picture.specs.Picture.{seen};
-ghost use Rattle.panel.specs.State.{stateOf, Valid};
+ghost use Rattle.lent.specs.State.{Valid};
+ghost use Rattle.panel.specs.Handed.{stateOf};
 ghost use Rattle.transcript.specs.Replay.{replayed, stopsAt};
 ghost use Rattle.transcript.specs.Text.{Told as ToldOf, roomFor};
 

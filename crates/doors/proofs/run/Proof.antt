@@ -1,7 +1,8 @@
 -- The loop keeps the panel valid; nothing is said of what is printed.
 use Prim.Native.Nat.{_≤_, _-_}
 use borrow.Author.Needs.{needs}
-use Rattle.panel.specs.State.{stateOf, Valid}
+use Rattle.lent.specs.State.{Valid}
+use Rattle.panel.specs.Handed.{stateOf}
 use Rattle.doors.proofs.run.Statement.{statement}
 use Rattle.doors.proofs.run.Tie as tie
 

@@ -1,6 +1,7 @@
 -- The panel handed on is valid; the turns left fall.
 use borrow.Author.Needs.{needs}
-use Rattle.panel.specs.State.{stateOf, Valid}
+use Rattle.lent.specs.State.{Valid}
+use Rattle.panel.specs.Handed.{stateOf}
 use Rattle.replay.proofs.main.Statement.{statement}
 use Rattle.replay.proofs.main.Tie as tie
 

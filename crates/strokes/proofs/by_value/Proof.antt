@@ -4,7 +4,8 @@ use borrow.Author.Needs.{needs}
 use lib.ListN.{length}
 use mathlib.Core.Path.{_≡_, _∙_, sym}
 use native.Mathlib.Omega.{arith}
-use Rattle.panel.specs.State.{stateOf, Valid}
+use Rattle.lent.specs.State.{Valid}
+use Rattle.panel.specs.Handed.{stateOf}
 use Rattle.strokes.proofs.by_value.Statement.{statement}
 use Rattle.strokes.proofs.by_value.Tie as tie
 

@@ -2,7 +2,7 @@
 use borrow.Author.Needs.{needs}
 use mathlib.Core.Path.{_∙_}
 use native.Mathlib.Omega.{arith}
-use Rattle.panel.specs.State.{stateOf}
+use Rattle.panel.specs.Handed.{stateOf}
 use Rattle.transcript.proofs.Bits.{Hearing, refuses, begins, accepts, fits, turns, ends}
 use Rattle.transcript.proofs.records.eight_bits.Statement.{statement}
 use Rattle.transcript.proofs.records.eight_bits.Tie as tie
