@@ -20,17 +20,9 @@ use Rattle.lent.specs.Calls.{Call, called, Stands, after}
 use Rattle.sequences.specs.Wires.{callsOf, onward, spelt, idleOn, resting, syncAfter, Fits, answers, numbersOf, countsOf, countsByWrite, sum}
 use Rattle.sequences.specs.Wires.{callsBefore, lastAlone, Board, begun, items, board, given, onLink, standing, withDl}
 use Rattle.sequences.specs.Agreement.{ReceivedAsGiven, SentIsReceived, WritesAreReceived, LinksAgree}
+use Rattle.sequences.proofs.Sequences.{after-append}
 use Rattle.sequences.proofs.ButDl.{boardButDl, board-respects}
 use Rattle.sequences.proofs.Heard.{Leaves, countWritten, act-fits, WriteLeaves, byte-leaves, halves-leave, serial-leaves}
-
--- some calls, then some more
-after-append :
-    (e : Seen) (calls more : List Call) (s : State) (frame : List ℕ)
-    → after e s frame (calls ++ more) ≡ after e (after e s frame calls .state) (after e s frame calls .frame) more
-unfolding after
-after-append e [] more s frame = refl
-after-append e (call ∷ calls) more s frame =
-    after-append e calls more (called e s frame call .state) (called e s frame call .frame)
 
 numbers-append :
     (e : Seen) (calls more : List Call) (s : State) (frame : List ℕ)

@@ -77,7 +77,7 @@ module _ (e : Seen) (m : Memories) (c : Control) (r : InRange c) where
   reset-unnamed parallel row column h u = absurd (never-whole _ _ row column u)
 
 -- for every call that is carried out
-abbrev TakenKept : Seen → Memories → Control → Taken → Type 0
+abbrev pub TakenKept : Seen → Memories → Control → Taken → Type 0
 TakenKept e m c otherLink = Unit {0}
 TakenKept e m c (taken x) = UnnamedKept e m c (x .acted)
 

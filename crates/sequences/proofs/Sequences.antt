@@ -1,6 +1,6 @@
 -- Over any sequence of calls, fonts and phase held, the frame goes on showing the picture.
 use Prim.Native.Nat.{ℕ}
-use mathlib.Core.List.{List, [], _∷_}
+use mathlib.Core.List.{List, [], _∷_, _++_}
 use mathlib.Core.Path.{_≡_, refl, _∙_, ap}
 use Rattle.picture.specs.Picture.{Seen, picture}
 use Rattle.lent.specs.State.{State, Valid}
@@ -25,3 +25,12 @@ after-shows e s frame [] v h = h
 after-shows e s frame (call ∷ calls) v h =
     after-shows e (called e s frame call .state) (called e s frame call .frame) calls (called-valid e s frame call v)
     (rw h (called-shows e s call v))
+
+-- some calls, then some more
+pub after-append :
+    (e : Seen) (calls more : List Call) (s : State) (frame : List ℕ)
+    → after e s frame (calls ++ more) ≡ after e (after e s frame calls .state) (after e s frame calls .frame) more
+unfolding after
+after-append e [] more s frame = refl
+after-append e (call ∷ calls) more s frame =
+    after-append e calls more (called e s frame call .state) (called e s frame call .frame)

@@ -1,0 +1,76 @@
+-- A call's number is the table's.
+use Prim.Native.Nat.{ℕ}
+use mathlib.Core.Bool.{Bool, true, false}
+use mathlib.Core.List.{List}
+use mathlib.Core.Path.{_≡_, refl, ap, subst, sym, _∙_}
+use lib.ListN.{length}
+use lib.Dec.{eqb}
+use Rattle.base.specs.Choice.{if_then_else_}
+use Rattle.base.proofs.Choice.{by-test}
+use Rattle.controller.specs.declared.Control.{Control}
+use Rattle.controller.specs.Memories.{Memories}
+use Rattle.links.specs.declared.Link.{Link}
+use Rattle.links.specs.declared.Link.the-variants.{Parallel, Serial}
+use Rattle.picture.specs.Picture.{Seen}
+use Rattle.picture.specs.Refusals.{refusalOf, drawn}
+use Rattle.lent.specs.State.{State}
+use Rattle.lent.specs.Calls.{Call, transfer, bit, selectLow, reset, Taken, otherLink, taken, takenBy, unlessOther, called}
+use Rattle.transcript.proofs.Refused.{called-unmoved}
+use Rattle.demands.specs.Demand1.{TableSays, ofOtherLink, CallRefuses, DrawRefuses}
+use Rattle.demands.proofs.Tables.{orOther, table-says}
+
+abbrev isOther : Taken → Bool
+isOther otherLink = true
+isOther (taken x) = false
+
+other-taken : (m : Memories) (c : Control) (l : Link) (call : Call) → isOther (takenBy m c l call) ≡ ofOtherLink l call
+unfolding takenBy
+other-taken m c (Parallel pairing) (transfer t) = refl
+other-taken m c (Serial receiver) (transfer t) = refl
+other-taken m c (Parallel pairing) (bit b) = refl
+other-taken m c (Serial receiver) (bit b) = refl
+other-taken m c (Parallel pairing) selectLow = refl
+other-taken m c (Serial receiver) selectLow = refl
+other-taken m c (Parallel pairing) (reset parallel) = refl
+other-taken m c (Serial receiver) (reset parallel) = refl
+
+other-number : (e : Seen) (s : State) (frame : List ℕ) (t : Taken) → unlessOther e s frame t .number ≡ (if isOther t then 5 else 0)
+other-number e s frame otherLink = refl
+other-number e s frame (taken x) = refl
+
+module _ (e : Seen) (s : State) (frame : List ℕ) (call : Call) where
+  call-number :
+      called e s frame call .number
+      ≡ orOther (ofOtherLink (s .link) call) (refusalOf (length frame) (length (e .half)) (length (e .full)))
+  unfolding called
+  call-number =
+      by-test (eqb (refusalOf (length frame) (length (e .half)) (length (e .full))) 0)
+      (λ t. rw t
+      (other-number e s frame (takenBy (s .memories) (s .control) (s .link) call)
+      ∙ ap (λ (b : Bool). if b then 5 else 0) (other-taken (s .memories) (s .control) (s .link) call)))
+      (λ t. rw t)
+
+  pub call-refuses : CallRefuses e s frame call
+  call-refuses =
+      record {
+        says = subst (TableSays e frame (ofOtherLink (s .link) call)) (sym call-number) (table-says e frame (ofOtherLink (s .link) call));
+        keeps = called-unmoved e s frame call;
+      }
+
+module _ (e : Seen) (m : Memories) (c : Control) (frame : List ℕ) where
+  draw-number :
+      drawn e m c frame .number ≡ orOther false (refusalOf (length frame) (length (e .half)) (length (e .full)))
+  unfolding drawn
+  draw-number =
+      by-test (eqb (refusalOf (length frame) (length (e .half)) (length (e .full))) 0) (λ t. rw t) (λ t. rw t)
+
+  pub draw-refuses : DrawRefuses e m c frame
+  unfolding drawn
+  draw-refuses =
+      record {
+        says = subst (TableSays e frame false) (sym draw-number) (table-says e frame false);
+        keeps =
+            by-test (eqb (refusalOf (length frame) (length (e .half)) (length (e .full))) 0)
+            (λ t. rw t (λ h. absurd (h refl)))
+            (λ t. rw t (λ h. refl));
+      }

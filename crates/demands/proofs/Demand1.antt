@@ -1,0 +1,18 @@
+-- Demand 1, from its parts.
+use Rattle.demands.specs.Demand1.{Demand1}
+use Rattle.demands.proofs.Tables.{table-once, send-refuses, send-once, record-says, record-once}
+use Rattle.demands.proofs.Calls.{call-refuses, draw-refuses}
+use Rattle.demands.proofs.Replays.{replay-stops}
+
+pub demand-1 : Demand1
+demand-1 =
+    record {
+      calls = call-refuses;
+      draws = draw-refuses;
+      sends = send-refuses;
+      captures = record-says;
+      replays = replay-stops;
+      callsOnce = table-once;
+      sendsOnce = send-once;
+      capturesOnce = record-once;
+    }

@@ -1,0 +1,8 @@
+pub mod Tables
+pub mod Calls
+pub mod Replays
+pub mod Demand1
+pub mod Demand2
+pub mod Demand3
+pub mod Readings
+pub mod Tight

@@ -1,0 +1,185 @@
+-- The readings, by computation. What a call reads off does not depend on what the frame holds, so frames are left out of it first.
+use Prim.{Unit, tt}
+use Prim.Native.Nat.{ℕ, _+_, _*_}
+use mathlib.Core.Bool.{Bool, true, false}
+use mathlib.Core.List.{List, [], _∷_, map}
+use mathlib.Core.Logic.{_⊎_, inl, inr}
+use mathlib.Core.Path.{_≡_, refl, ap, sym, _∙_}
+use lib.ListN.{length, replicate, getD}
+use lib.Dec.{eqb}
+use borrow.Author.Tests.{eq-eqb}
+use Rattle.base.specs.Painting.{count}
+use Rattle.table.specs.Table.{rowOf, said}
+use Rattle.controller.specs.Memories.{wordPlace, graphicPlace, freshMemories}
+use Rattle.controller.specs.State.{fresh}
+use Rattle.controller.specs.Instructions.{obeyed}
+use Rattle.controller.specs.Data.{stored, found, moved, movedOn}
+use Rattle.controller.specs.Glass.{shownRow, shownWord}
+use Rattle.controller.specs.Named.{instructionNames, writeNames, readNames, inCell, covers}
+use Rattle.controller.specs.Transfers.{executed, written, readOut, statusRead}
+use Rattle.links.specs.Items.{bitsOf}
+use Rattle.links.specs.Serial.{counted, afterHeader, headerBit, bodyBit, completed, heard}
+use Rattle.glyph.specs.declared.Code.the-variants.{Number}
+use Rattle.glyph.specs.Numbering.{numberOf}
+use Rattle.picture.specs.Picture.{Seen}
+use Rattle.picture.specs.Refusals.{refusalOf}
+use Rattle.repaint.specs.Repaint.{named, countNamed}
+use Rattle.lent.specs.State.{State, state, freshState}
+use Rattle.lent.specs.Steps.{carriedOut, transferStep, bitStep}
+use Rattle.lent.specs.Calls.{Call, Taken, otherLink, taken, takenBy, Called, unlessOther, called, after}
+use Rattle.sequences.specs.Wires.{Fits, answers}
+use Rattle.transcript.proofs.Refused.{called-length}
+use Rattle.demands.specs.Readings.{Reading, replies, counts, numbers, textWord, graphicWord, reAndG, nothingStored, glyphNumber, Row, table, zeroFonts}
+use Rattle.demands.specs.Readings.{answered, Reads, AllRead, AllHold, ReadingsHold}
+
+-- what a call leaves but the frame
+record Told : Type 0 where
+  state : State
+  number : ℕ
+  reply : ℕ
+  count : ℕ
+
+abbrev told : Called → Told
+told k = record { state = k .state; number = k .number; reply = k .reply; count = k .count }
+
+abbrev toldBy : State → Taken → Told
+toldBy s otherLink = record { state = s; number = 5; reply = 0; count = 0 }
+toldBy s (taken x) =
+    record {
+      state = state (x .acted .memories) (x .acted .done .control) (x .link);
+      number = 0;
+      reply = x .acted .done .reply;
+      count = countNamed (x .acted .memories) (x .acted .done .control) (x .acted .done .region);
+    }
+
+tells : State → Call → Told
+tells s call = toldBy s (takenBy (s .memories) (s .control) (s .link) call)
+
+allTold : State → List Call → List Told
+allTold s [] = []
+allTold s (call ∷ calls) = tells s call ∷ allTold (tells s call .state) calls
+
+lastState : State → List Call → State
+lastState s [] = s
+lastState s (call ∷ calls) = lastState (tells s call .state) calls
+
+taken-told : (e : Seen) (s : State) (frame : List ℕ) (t : Taken) → told (unlessOther e s frame t) ≡ toldBy s t
+taken-told e s frame otherLink = refl
+taken-told e s frame (taken x) = refl
+
+module _ (e : Seen) where
+  call-told : (s : State) (frame : List ℕ) (call : Call) → Fits e frame → told (called e s frame call) ≡ tells s call
+  unfolding called tells
+  call-told s frame call fits =
+      rw (eq-eqb (refusalOf (length frame) (length (e .half)) (length (e .full))) 0 fits)
+      (taken-told e s frame (takenBy (s .memories) (s .control) (s .link) call))
+
+  still-fits : (s : State) (frame : List ℕ) (call : Call) → Fits e frame → Fits e (called e s frame call .frame)
+  still-fits s frame call fits = rw (called-length e s frame call) fits
+
+  all-told : (calls : List Call) (s : State) (frame : List ℕ) → Fits e frame → map told (answers e s frame calls) ≡ allTold s calls
+  unfolding answers allTold
+  all-told [] s frame fits = refl
+  all-told (call ∷ calls) s frame fits =
+      ap (λ (more : List Told). told (called e s frame call) ∷ more)
+      (all-told calls (called e s frame call .state) (called e s frame call .frame) (still-fits s frame call fits))
+      ∙ ap (λ (k : Told). k ∷ allTold (k .state) calls) (call-told s frame call fits)
+
+  last-state : (calls : List Call) (s : State) (frame : List ℕ) → Fits e frame → after e s frame calls .state ≡ lastState s calls
+  unfolding after lastState
+  last-state [] s frame fits = refl
+  last-state (call ∷ calls) s frame fits =
+      last-state calls (called e s frame call .state) (called e s frame call .frame) (still-fits s frame call fits)
+      ∙ ap (λ (k : Told). lastState (k .state) calls) (call-told s frame call fits)
+
+map-told : {B : Type 0} (f : Told → B) (ks : List Called) → map (λ k. f (told k)) ks ≡ map f (map told ks)
+map-told f [] = refl
+map-told f (k ∷ ks) = ap (λ (more : List _). f (told k) ∷ more) (map-told f ks)
+
+module _ (r : Row) where
+  abbrev begun : State
+  begun = freshState (r .parallel)
+
+  abbrev end : State
+  end = lastState begun (r .calls)
+
+  -- the readings without the frame
+  abbrev Tells : Reading → Type 0
+  Tells (replies bytes) = map (λ k. k .reply) (allTold begun (r .calls)) ≡ bytes
+  Tells (counts ns) = map (λ k. k .count) (allTold begun (r .calls)) ≡ ns
+  Tells (numbers ns) = map (λ k. k .number) (allTold begun (r .calls)) ≡ ns
+  Tells (textWord word value) =
+      getD (end .memories .text) (wordPlace word false) 0 * 256 + getD (end .memories .text) (wordPlace word true) 0 ≡ value
+  Tells (graphicWord line column value) =
+      getD (end .memories .graphic) (graphicPlace line column false) 0 * 256
+      + getD (end .memories .graphic) (graphicPlace line column true) 0
+      ≡ value
+  Tells (reAndG re g) = (end .control .function .re ≡ re) × (end .control .function .g ≡ g)
+  Tells nothingStored = end .memories ≡ freshMemories
+  Tells (glyphNumber lead trail number) = numberOf lead trail ≡ Number number
+
+  AllTell : List Reading → Type 0
+  AllTell [] = Unit {0}
+  AllTell (reading ∷ readings) = Tells reading × AllTell readings
+
+  module _ (fits : Fits zeroFonts (replicate (r .frame) 0)) where
+    abbrev all : map told (answers zeroFonts begun (replicate (r .frame) 0) (r .calls)) ≡ allTold begun (r .calls)
+    all = all-told zeroFonts (r .calls) begun (replicate (r .frame) 0) fits
+
+    abbrev last : after zeroFonts begun (replicate (r .frame) 0) (r .calls) .state ≡ end
+    last = last-state zeroFonts (r .calls) begun (replicate (r .frame) 0) fits
+
+    reads : (reading : Reading) → Tells reading → Reads r reading
+    reads (replies bytes) h = map-told (λ k. k .reply) (answered r) ∙ ap (map (λ k. k .reply)) all ∙ h
+    reads (counts ns) h = map-told (λ k. k .count) (answered r) ∙ ap (map (λ k. k .count)) all ∙ h
+    reads (numbers ns) h = map-told (λ k. k .number) (answered r) ∙ ap (map (λ k. k .number)) all ∙ h
+    reads (textWord word value) h = rw last h
+    reads (graphicWord line column value) h = rw last h
+    reads (reAndG re g) h = rw last h
+    reads nothingStored h = rw last h
+    reads (glyphNumber lead trail number) h = h
+
+    all-read : (readings : List Reading) → AllTell readings → AllRead r readings
+    unfolding AllRead AllTell
+    all-read [] h = tt
+    all-read (reading ∷ readings) h = (reads reading (h .0), all-read readings (h .1))
+
+-- a row holds without its frame where the frame fits; where it does not, no frame is painted
+Holds : Row → Type 0
+Holds r = (Fits zeroFonts (replicate (r .frame) 0) × AllTell r (r .readings)) ⊎ AllRead r (r .readings)
+
+AllRows : List Row → Type 0
+AllRows [] = Unit {0}
+AllRows (r ∷ rows) = Holds r × AllRows rows
+
+holds : (r : Row) → Holds r → AllRead r (r .readings)
+unfolding Holds
+holds r (inl h) = all-read r (h .0) (r .readings) (h .1)
+holds r (inr h) = h
+
+all-hold : (rows : List Row) → AllRows rows → AllHold rows
+unfolding AllRows AllHold
+all-hold [] h = tt
+all-hold (r ∷ rows) h = (holds r (h .0), all-hold rows (h .1))
+
+rows-hold : AllRows table
+unfolding AllRows Holds AllRead AllTell table allTold lastState tells answers called takenBy transferStep bitStep carriedOut executed written readOut statusRead obeyed said rowOf stored found moved movedOn instructionNames writeNames readNames covers inCell shownRow shownWord named countNamed count refusalOf fresh freshMemories freshState bitsOf heard counted afterHeader headerBit bodyBit completed numberOf
+rows-hold =
+    (inl (refl, (refl, tt)),
+    (inl (refl, (refl, tt)),
+    (inl (refl, (refl, (refl, (refl, tt)))),
+    (inl (refl, (refl, tt)),
+    (inl (refl, (refl, (refl, tt))),
+    (inl (refl, (refl, tt)),
+    (inl (refl, ((refl, refl), tt)),
+    (inl (refl, ((refl, refl), tt)),
+    (inl (refl, (refl, (refl, tt))),
+    (inl (refl, (refl, (refl, tt))),
+    (inr (refl, tt),
+    (inr (refl, tt),
+    (inl (refl, (refl, tt)),
+    (inl (refl, (refl, tt)),
+    tt))))))))))))))
+
+pub readings-hold : ReadingsHold
+readings-hold = all-hold table rows-hold

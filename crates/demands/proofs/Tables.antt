@@ -1,0 +1,147 @@
+-- Each table of refusals gives one number, and it is the one that the definitions give.
+use Prim.Native.Nat.{ℕ, _≤_, _<_, _%_}
+use mathlib.Core.Bool.{Bool, true, false, not, _&&_, _||_, true≢false}
+use mathlib.Core.List.{List}
+use mathlib.Core.Logic.{_≢_}
+use mathlib.Core.Path.{_≡_, refl, sym, ap, subst, _∙_}
+use native.Mathlib.Omega.{arith}
+use lib.ListN.{length, getD}
+use lib.Dec.{eqb, ltb, leb}
+use borrow.Author.Tests.{eqb-true, eqb-false, ltb-true, ltb-false, leb-true, leb-false, not-true, not-false, eq-eqb, ne-eqb, le-ltb, lt-ltb, le-leb, lt-leb}
+use Rattle.base.specs.Choice.{if_then_else_}
+use Rattle.base.proofs.Choice.{either-told, by-test}
+use Rattle.base.proofs.Tests.{or-neither, or-else, and-both, never}
+use Rattle.links.specs.Sender.{Sent, leaving, sent}
+use Rattle.picture.specs.Picture.{Seen}
+use Rattle.picture.specs.Refusals.{refusalOf}
+use Rattle.capture.specs.declared.Answer.{Answer}
+use Rattle.capture.specs.Record as records
+use Rattle.demands.specs.Demand1.{GoodFullFont, TableSays, frameLength, halfFontLength, fullFontLength, otherLink, accepted, OneNumber}
+use Rattle.demands.specs.Demand1 as demands
+use Rattle.demands.specs.Demand1.{SenderSays, SendRefuses, Marked, Allowed, RecordSays}
+
+-- the number of a call, from that of its buffers
+abbrev pub orOther : Bool → ℕ → ℕ
+orOther other n = if eqb n 0 then (if other then 5 else 0) else n
+
+full-good : (e : Seen) → (not (eqb (length (e .full) % 32) 0) || ltb 267264 (length (e .full))) ≡ false → GoodFullFont e
+full-good e d =
+    let q = or-neither (not (eqb (length (e .full) % 32) 0)) (ltb 267264 (length (e .full))) d in
+    (eqb-true (length (e .full) % 32) 0 (not-false (eqb (length (e .full) % 32) 0) (q .0)), ltb-false 267264 (length (e .full)) (q .1))
+
+good-full : (e : Seen) → GoodFullFont e → (not (eqb (length (e .full) % 32) 0) || ltb 267264 (length (e .full))) ≡ false
+good-full e g = rw (eq-eqb (length (e .full) % 32) 0 (g .0), le-ltb 267264 (length (e .full)) (g .1))
+
+module _ (e : Seen) (frame : List ℕ) (other : Bool) where
+  abbrev pub tableNumber : ℕ
+  tableNumber = orOther other (refusalOf (length frame) (length (e .half)) (length (e .full)))
+
+  abbrev Says : ℕ → Type 0
+  Says n = TableSays e frame other (orOther other n)
+
+  pub table-says : TableSays e frame other tableNumber
+  unfolding refusalOf
+  table-says =
+      either-told Says (not (eqb (length frame) 1024)) (λ t. frameLength (eqb-false (length frame) 1024 (not-true (eqb (length frame) 1024) t)))
+      (λ a. let f = eqb-true (length frame) 1024 (not-false (eqb (length frame) 1024) a) in
+      either-told Says (not (eqb (length (e .half)) 2048))
+      (λ t. halfFontLength f (eqb-false (length (e .half)) 2048 (not-true (eqb (length (e .half)) 2048) t)))
+      (λ b. let h = eqb-true (length (e .half)) 2048 (not-false (eqb (length (e .half)) 2048) b) in
+      either-told Says (not (eqb (length (e .full) % 32) 0) || ltb 267264 (length (e .full)))
+      (λ t. fullFontLength f h (λ g. true≢false (sym t ∙ good-full e g)))
+      (λ d. either-told (TableSays e frame other) other (otherLink f h (full-good e d)) (accepted f h (full-good e d)))))
+
+  pub table-number : (n : ℕ) → TableSays e frame other n → n ≡ tableNumber
+  unfolding refusalOf
+  table-number n (frameLength g) = rw (ne-eqb (length frame) 1024 g)
+  table-number n (halfFontLength f g) = rw (eq-eqb (length frame) 1024 f, ne-eqb (length (e .half)) 2048 g)
+  table-number n (fullFontLength f h g) =
+      rw (eq-eqb (length frame) 1024 f, eq-eqb (length (e .half)) 2048 h,
+      by-test (not (eqb (length (e .full) % 32) 0) || ltb 267264 (length (e .full))) (λ t. t) (λ d. absurd (g (full-good e d))))
+  table-number n (otherLink f h g o) = rw (eq-eqb (length frame) 1024 f, eq-eqb (length (e .half)) 2048 h, good-full e g, o)
+  table-number n (accepted f h g o) = rw (eq-eqb (length frame) 1024 f, eq-eqb (length (e .half)) 2048 h, good-full e g, o)
+
+  pub table-once : OneNumber (TableSays e frame other)
+  table-once m n x y = table-number m x ∙ sym (table-number n y)
+
+module _ (register : Bool) (byte : ℕ) (buffer : List ℕ) where
+  pub send-refuses : SendRefuses register byte buffer
+  unfolding sent
+  send-refuses =
+      by-test (ltb (length buffer) 3)
+      (λ t. record { says = rw t (demands.bufferLength (ltb-true (length buffer) 3 t)); keeps = λ h. rw t })
+      (λ t. record { says = rw t (demands.accepted (ltb-false (length buffer) 3 t)); keeps = λ h. absurd (h (rw t)) })
+
+pub send-once : (buffer : List ℕ) → OneNumber (SenderSays buffer)
+send-once buffer m n (demands.bufferLength a) (demands.bufferLength b) = refl
+send-once buffer m n (demands.bufferLength a) (demands.accepted b) = absurd (omega arith)
+send-once buffer m n (demands.accepted a) (demands.bufferLength b) = absurd (omega arith)
+send-once buffer m n (demands.accepted a) (demands.accepted b) = refl
+
+-- the values that a kind takes, as a test and in words
+allowed-is : (kind value : ℕ) → records.allowed kind value ≡ true → Allowed kind value
+allowed-is kind value h =
+    record {
+      statusRead = λ k. eqb-true value 0 (subst (λ (n : ℕ). records.allowed n value ≡ true) k h);
+      dataRead = λ k. eqb-true value 0 (subst (λ (n : ℕ). records.allowed n value ≡ true) k h);
+      selectLow = λ k. eqb-true value 0 (subst (λ (n : ℕ). records.allowed n value ≡ true) k h);
+      reset = λ k. leb-true value 1 (subst (λ (n : ℕ). records.allowed n value ≡ true) k h);
+    }
+
+is-allowed : (kind value : ℕ) → Allowed kind value → records.allowed kind value ≡ true
+is-allowed kind value a =
+    by-test (eqb kind 2) (λ t. rw (t, eq-eqb value 0 (a .statusRead (eqb-true kind 2 t))))
+    (λ f2. by-test (eqb kind 3) (λ t. rw (f2, t, eq-eqb value 0 (a .dataRead (eqb-true kind 3 t))))
+    (λ f3. by-test (eqb kind 5) (λ t. rw (f2, f3, t, eq-eqb value 0 (a .selectLow (eqb-true kind 5 t))))
+    (λ f5. by-test (eqb kind 6) (λ t. rw (f2, f3, f5, t, le-leb value 1 (a .reset (eqb-true kind 6 t))))
+    (λ f6. rw (f2, f3, f5, f6)))))
+
+module _ (c : List ℕ) where
+  is-marked : Marked c → records.marked (getD c 0 0) (getD c 1 0) ≡ true
+  is-marked m = rw (eq-eqb (getD c 0 0) 0xA5 (m .0), eq-eqb (getD c 1 0) 0x5A (m .1))
+
+  marked-is : records.marked (getD c 0 0) (getD c 1 0) ≡ true → Marked c
+  marked-is t =
+      let q = and-both (eqb (getD c 0 0) 0xA5) (eqb (getD c 1 0) 0x5A) t in
+      (eqb-true (getD c 0 0) 0xA5 (q .0), eqb-true (getD c 1 0) 0x5A (q .1))
+
+  abbrev Answers : Answer → Type 0
+  Answers a = RecordSays c (records.number a)
+
+  pub record-says : RecordSays c (records.number (records.answer c))
+  unfolding records.answer
+  record-says =
+      either-told Answers (eqb (length c) 0) (λ t. demands.end (eqb-true (length c) 0 t))
+      (λ f. let some = eqb-false (length c) 0 f in
+      either-told Answers (leb (length c) 3) (λ t. let l = leb-true (length c) 3 t in demands.remain (omega arith) l)
+      (λ f. let four : 4 ≤ length c = leb-false (length c) 3 f in
+      either-told Answers (not (records.marked (getD c 0 0) (getD c 1 0)))
+      (λ t. demands.mark four (λ m. true≢false (sym (is-marked m) ∙ not-true (records.marked (getD c 0 0) (getD c 1 0)) t)))
+      (λ f. let m = marked-is (not-false (records.marked (getD c 0 0) (getD c 1 0)) f) in
+      either-told Answers (not (records.known (records.kindOf c)))
+      (λ t. demands.kind four m (leb-false (records.kindOf c) 6 (not-true (records.known (records.kindOf c)) t)))
+      (λ f. let k = leb-true (records.kindOf c) 6 (not-false (records.known (records.kindOf c)) f) in
+      either-told Answers (not (records.allowed (records.kindOf c) (records.valueOf c)))
+      (λ t. demands.value four m k
+      (λ a. true≢false (sym (is-allowed (records.kindOf c) (records.valueOf c) a) ∙ not-true (records.allowed (records.kindOf c) (records.valueOf c)) t)))
+      (λ f. demands.good four m k
+      (allowed-is (records.kindOf c) (records.valueOf c) (not-false (records.allowed (records.kindOf c) (records.valueOf c)) f)))))))
+
+  record-number : (n : ℕ) → RecordSays c n → n ≡ records.number (records.answer c)
+  unfolding records.answer
+  record-number n (demands.remain a b) = rw (ne-eqb (length c) 0 (λ z. omega arith), le-leb (length c) 3 b)
+  record-number n (demands.mark a g) =
+      rw (ne-eqb (length c) 0 (λ z. omega arith), lt-leb (length c) 3 a,
+      never (records.marked (getD c 0 0) (getD c 1 0)) (λ t. g (marked-is t)))
+  record-number n (demands.kind a m k) =
+      rw (ne-eqb (length c) 0 (λ z. omega arith), lt-leb (length c) 3 a, is-marked m, lt-leb (records.kindOf c) 6 k)
+  record-number n (demands.value a m k g) =
+      rw (ne-eqb (length c) 0 (λ z. omega arith), lt-leb (length c) 3 a, is-marked m, le-leb (records.kindOf c) 6 k,
+      never (records.allowed (records.kindOf c) (records.valueOf c)) (λ t. g (allowed-is (records.kindOf c) (records.valueOf c) t)))
+  record-number n (demands.end z) = rw (eq-eqb (length c) 0 z)
+  record-number n (demands.good a m k v) =
+      rw (ne-eqb (length c) 0 (λ z. omega arith), lt-leb (length c) 3 a, is-marked m, le-leb (records.kindOf c) 6 k,
+      is-allowed (records.kindOf c) (records.valueOf c) v)
+
+  pub record-once : OneNumber (RecordSays c)
+  record-once m n x y = record-number m x ∙ sym (record-number n y)

@@ -1,0 +1,122 @@
+-- Document 01, "Panel readings to be proved": one statement over one table. Each row has the calls made from fresh and what is read off
+-- then, by the definitions that the contracts of the public calls cite. `ReadingsHold` is proved in proofs/, as `readings-hold`.
+use Prim.{Unit}
+use Prim.Native.Nat.{ℕ, _+_, _*_}
+use mathlib.Core.Bool.{Bool, true, false}
+use mathlib.Core.List.{List, [], _∷_, map}
+use mathlib.Core.Path.{_≡_}
+use lib.ListN.{replicate, getD}
+use Rattle.controller.specs.Memories.{wordPlace, graphicPlace, freshMemories}
+use Rattle.links.specs.declared.Transfer.the-variants.{Instruct, Write, Status, Read}
+use Rattle.links.specs.Items.{bitsOf}
+use Rattle.glyph.specs.declared.Code.the-variants.{Number}
+use Rattle.glyph.specs.Numbering.{numberOf}
+use Rattle.picture.specs.Picture.{Seen}
+use Rattle.lent.specs.State.{State, freshState}
+use Rattle.lent.specs.Calls as calls
+use Rattle.lent.specs.Calls.{Call, Called, transfer, after}
+use Rattle.sequences.specs.Wires.{answers}
+
+-- the calls as the table writes them
+abbrev pub instruct : ℕ → Call
+instruct byte = transfer (Instruct byte)
+
+abbrev pub write : ℕ → Call
+write byte = transfer (Write byte)
+
+abbrev pub status : Call
+status = transfer Status
+
+abbrev pub read : Call
+read = transfer Read
+
+-- serial bytes, bit by bit with chip select high
+abbrev pub bytes : List ℕ → List Call
+bytes bs = map calls.bit (bitsOf bs)
+
+-- what is read off: of all calls in their order the replies, the counts or the refusal numbers; at the end a word of text or graphic
+-- memory, RE and G, or that the memories are as fresh; or the number of a glyph's code
+pub data Reading : Type 0 where
+  replies : List ℕ → Reading
+  counts : List ℕ → Reading
+  numbers : List ℕ → Reading
+  textWord : ℕ → ℕ → Reading
+  graphicWord : ℕ → ℕ → ℕ → Reading
+  reAndG : Bool → Bool → Reading
+  nothingStored : Reading
+  glyphNumber : ℕ → ℕ → ℕ → Reading
+
+-- a row: its case, the link that the panel is made with, the frame's length, the calls, and the readings
+pub record Row : Type 0 where
+  pub case : ℕ
+  pub parallel : Bool
+  pub frame : ℕ
+  pub calls : List Call
+  pub readings : List Reading
+
+abbrev pub row : ℕ → List Call → List Reading → Row
+row case calls readings = record { case = case; parallel = true; frame = 1024; calls = calls; readings = readings }
+
+abbrev pub serialRow : ℕ → List Call → List Reading → Row
+serialRow case calls readings = record { case = case; parallel = false; frame = 1024; calls = calls; readings = readings }
+
+abbrev pub framed : ℕ → ℕ → List Call → List Reading → Row
+framed case length calls readings = record { case = case; parallel = true; frame = length; calls = calls; readings = readings }
+
+unfoldable pub table : List Row
+table =
+    row 1 (status ∷ []) (replies (0x00 ∷ []) ∷ [])
+    ∷ row 2 (instruct 0x85 ∷ status ∷ []) (replies (0 ∷ 0x05 ∷ []) ∷ [])
+    ∷ row 3 (instruct 0x80 ∷ write 0x2D ∷ write 0x37 ∷ status ∷ [])
+    (textWord 0 0x2D37 ∷ replies (0 ∷ 0 ∷ 0 ∷ 0x01 ∷ []) ∷ counts (32 ∷ 32 ∷ 64 ∷ 0 ∷ []) ∷ [])
+    ∷ row 4 (instruct 0x80 ∷ write 0x2D ∷ write 0x37 ∷ instruct 0x80 ∷ read ∷ read ∷ read ∷ [])
+    (replies (0 ∷ 0 ∷ 0 ∷ 0 ∷ 0x00 ∷ 0x2D ∷ 0x37 ∷ []) ∷ [])
+    ∷ row 5 (instruct 0xBF ∷ write 0x2D ∷ write 0x37 ∷ status ∷ [])
+    (replies (0 ∷ 0 ∷ 0 ∷ 0x00 ∷ []) ∷ counts (32 ∷ 0 ∷ 32 ∷ 0 ∷ []) ∷ [])
+    ∷ row 6 (instruct 0x04 ∷ instruct 0x80 ∷ write 0x2D ∷ write 0x37 ∷ status ∷ []) (replies (0 ∷ 0 ∷ 0 ∷ 0 ∷ 0x3F ∷ []) ∷ [])
+    ∷ row 7 (instruct 0x36 ∷ []) (reAndG true false ∷ [])
+    ∷ row 7 (instruct 0x36 ∷ instruct 0x36 ∷ []) (reAndG true true ∷ [])
+    ∷ row 8 (instruct 0x34 ∷ instruct 0x36 ∷ instruct 0x83 ∷ instruct 0x8F ∷ write 0xAA ∷ write 0x55 ∷ status ∷ [])
+    (graphicWord 3 15 0xAA55 ∷ replies (0 ∷ 0 ∷ 0 ∷ 0 ∷ 0 ∷ 0 ∷ 0x00 ∷ []) ∷ [])
+    ∷ row 9 [] (glyphNumber 0xA1 0xA0 0 ∷ glyphNumber 0xF7 0xFF 8351 ∷ [])
+    ∷ framed 10 1023 (status ∷ []) (numbers (1 ∷ []) ∷ [])
+    ∷ framed 10 1025 (status ∷ []) (numbers (1 ∷ []) ∷ [])
+    ∷ serialRow 11 (bytes (0xFA ∷ 0x20 ∷ 0xD0 ∷ [])) (textWord 0 0x2D20 ∷ [])
+    ∷ serialRow 12 (bytes (0xFA ∷ 0x20 ∷ 0xD1 ∷ [])) (nothingStored ∷ [])
+    ∷ []
+
+-- a zero half font, an empty full font, phase 0 and a zero frame
+abbrev pub zeroFonts : Seen
+zeroFonts = record { half = replicate 2048 0; full = []; phase = false }
+
+module _ (r : Row) where
+  abbrev pub answered : List Called
+  answered = answers zeroFonts (freshState (r .parallel)) (replicate (r .frame) 0) (r .calls)
+
+  abbrev pub end : State
+  end = after zeroFonts (freshState (r .parallel)) (replicate (r .frame) 0) (r .calls) .state
+
+  abbrev pub Reads : Reading → Type 0
+  Reads (replies bytes) = map (λ k. k .reply) answered ≡ bytes
+  Reads (counts ns) = map (λ k. k .count) answered ≡ ns
+  Reads (numbers ns) = map (λ k. k .number) answered ≡ ns
+  Reads (textWord word value) =
+      getD (end .memories .text) (wordPlace word false) 0 * 256 + getD (end .memories .text) (wordPlace word true) 0 ≡ value
+  Reads (graphicWord line column value) =
+      getD (end .memories .graphic) (graphicPlace line column false) 0 * 256
+      + getD (end .memories .graphic) (graphicPlace line column true) 0
+      ≡ value
+  Reads (reAndG re g) = (end .control .function .re ≡ re) × (end .control .function .g ≡ g)
+  Reads nothingStored = end .memories ≡ freshMemories
+  Reads (glyphNumber lead trail number) = numberOf lead trail ≡ Number number
+
+  unfoldable pub AllRead : List Reading → Type 0
+  AllRead [] = Unit {0}
+  AllRead (reading ∷ readings) = Reads reading × AllRead readings
+
+unfoldable pub AllHold : List Row → Type 0
+AllHold [] = Unit {0}
+AllHold (r ∷ rows) = AllRead r (r .readings) × AllHold rows
+
+abbrev pub ReadingsHold : Type 0
+ReadingsHold = AllHold table
