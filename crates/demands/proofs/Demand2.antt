@@ -1,20 +1,17 @@
 -- Demand 2, from the laws of the links and of all sequences of calls.
-use Prim.Native.Nat.{ℕ}
-use mathlib.Core.List.{List, [], _∷_, map}
-use mathlib.Core.Path.{_≡_, refl, ap, _∙_}
+use mathlib.Core.List.{List, [], _∷_}
+use mathlib.Core.Path.{refl, ap, _∙_}
 use lib.ListN.{length}
 use borrow.Author.Tests.{le-ltb}
 use Rattle.links.specs.Sender.{sent}
-use Rattle.picture.specs.Picture.{Seen}
 use Rattle.picture.proofs.Accepted.{draws}
-use Rattle.lent.specs.Calls.{Call, Called, called}
+use Rattle.lent.specs.Calls.{Called}
 use Rattle.sequences.specs.Wires.{answers}
 use Rattle.sequences.proofs.Connected.{transfer-is-connected, bit-is-connected}
 use Rattle.sequences.proofs.Agreement.{sent-is-received, links-agree}
 use Rattle.sequences.proofs.KeepDl.{function-sets-keep-dl}
-use Rattle.panel.specs.declared.Panel.{Panel}
-use Rattle.panel.specs.Handed.{stateOf, handed}
-use Rattle.demands.specs.Demand2.{Left, Run, SequencesAsDefined, SendsThreeBytes, OneState, Demand2}
+use Rattle.panel.specs.Handed.{handed}
+use Rattle.demands.specs.Demand2.{Run, SequencesAsDefined, SendsThreeBytes, OneState, Demand2}
 
 sequences-as-defined : SequencesAsDefined
 unfolding Run answers

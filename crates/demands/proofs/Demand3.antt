@@ -1,11 +1,10 @@
 -- Demand 3, from the laws of one call: what it names becomes the picture's, and what it does not name keeps its byte in frame and picture.
 use Prim.Native.Nat.{ℕ, _<_, _/_, _%_}
-use mathlib.Core.Bool.{Bool, true, false, _||_}
+use mathlib.Core.Bool.{false}
 use mathlib.Core.List.{List, [], _∷_}
-use mathlib.Core.Path.{_≡_, refl, sym, ap, subst, _∙_}
+use mathlib.Core.Path.{_≡_, refl, sym, _∙_}
 use native.Mathlib.Omega.{arith}
 use lib.ListN.{length, getD}
-use lib.Dec.{eqb}
 use borrow.Author.Tests.{eq-eqb}
 use Rattle.base.specs.Choice.{if_then_else_}
 use Rattle.base.specs.Painting.{count}
@@ -13,13 +12,13 @@ use Rattle.base.proofs.Choice.{by-test}
 use Rattle.base.proofs.Counting.{count-none}
 use Rattle.base.proofs.Painting.{painted-at}
 use Rattle.base.proofs.Tests.{or-neither}
-use Rattle.picture.specs.Picture.{Seen, picture}
+use Rattle.picture.specs.Picture.{Seen}
 use Rattle.picture.specs.Refusals.{refusalOf}
 use Rattle.picture.proofs.CellRows.{picture-at}
 use Rattle.picture.proofs.Accepted as sizes
 use Rattle.repaint.specs.Repaint.{named, repainted, countNamed}
 use Rattle.lent.specs.State.{State, Valid}
-use Rattle.lent.specs.Calls.{Call, Taken, otherLink, taken, takenBy, Called, unlessOther, called, after}
+use Rattle.lent.specs.Calls.{Call, Taken, otherLink, taken, takenBy, unlessOther, called, after}
 use Rattle.lent.proofs.Kept.{called-valid}
 use Rattle.sequences.specs.Wires.{Fits}
 use Rattle.sequences.proofs.Repainted.{TakenKept, taken-unnamed}

@@ -1,16 +1,14 @@
 -- The readings, by computation. What a call reads off does not depend on what the frame holds, so frames are left out of it first.
 use Prim.{Unit, tt}
-use Prim.Native.Nat.{ℕ, _+_, _*_}
-use mathlib.Core.Bool.{Bool, true, false}
+use Prim.Native.Nat.{ℕ}
 use mathlib.Core.List.{List, [], _∷_, map}
 use mathlib.Core.Logic.{_⊎_, inl, inr}
-use mathlib.Core.Path.{_≡_, refl, ap, sym, _∙_}
-use lib.ListN.{length, replicate, getD}
-use lib.Dec.{eqb}
+use mathlib.Core.Path.{_≡_, refl, ap, sym, subst, _∙_}
+use lib.ListN.{length, replicate}
 use borrow.Author.Tests.{eq-eqb}
 use Rattle.base.specs.Painting.{count}
 use Rattle.table.specs.Table.{rowOf, said}
-use Rattle.controller.specs.Memories.{wordPlace, graphicPlace, freshMemories}
+use Rattle.controller.specs.Memories.{freshMemories}
 use Rattle.controller.specs.State.{fresh}
 use Rattle.controller.specs.Instructions.{obeyed}
 use Rattle.controller.specs.Data.{stored, found, moved, movedOn}
@@ -19,7 +17,6 @@ use Rattle.controller.specs.Named.{instructionNames, writeNames, readNames, inC
 use Rattle.controller.specs.Transfers.{executed, written, readOut, statusRead}
 use Rattle.links.specs.Items.{bitsOf}
 use Rattle.links.specs.Serial.{counted, afterHeader, headerBit, bodyBit, completed, heard}
-use Rattle.glyph.specs.declared.Code.the-variants.{Number}
 use Rattle.glyph.specs.Numbering.{numberOf}
 use Rattle.picture.specs.Picture.{Seen}
 use Rattle.picture.specs.Refusals.{refusalOf}
@@ -29,8 +26,7 @@ use Rattle.lent.specs.Steps.{carriedOut, transferStep, bitStep}
 use Rattle.lent.specs.Calls.{Call, Taken, otherLink, taken, takenBy, Called, unlessOther, called, after}
 use Rattle.sequences.specs.Wires.{Fits, answers}
 use Rattle.transcript.proofs.Refused.{called-length}
-use Rattle.demands.specs.Readings.{Reading, replies, counts, numbers, textWord, graphicWord, reAndG, nothingStored, glyphNumber, Row, table, zeroFonts}
-use Rattle.demands.specs.Readings.{answered, Reads, AllRead, AllHold, ReadingsHold}
+use Rattle.demands.specs.Readings.{Row, table, zeroFonts, Observed, observed, AllRead, AllHold, ReadingsHold}
 
 -- what a call leaves but the frame
 record Told : Type 0 where
@@ -96,65 +92,35 @@ map-told : {B : Type 0} (f : Told → B) (ks : List Called) → map (λ k. f (to
 map-told f [] = refl
 map-told f (k ∷ ks) = ap (λ (more : List _). f (told k) ∷ more) (map-told f ks)
 
-module _ (r : Row) where
-  abbrev begun : State
-  begun = freshState (r .parallel)
+-- what is observed without the frame
+abbrev toldOf : Row → Observed
+toldOf r =
+    let all = allTold (freshState (r .parallel)) (r .calls) in
+    record {
+      replies = map (λ k. k .reply) all;
+      counts = map (λ k. k .count) all;
+      numbers = map (λ k. k .number) all;
+      end = lastState (freshState (r .parallel)) (r .calls);
+    }
 
-  abbrev end : State
-  end = lastState begun (r .calls)
-
-  -- the readings without the frame
-  abbrev Tells : Reading → Type 0
-  Tells (replies bytes) = map (λ k. k .reply) (allTold begun (r .calls)) ≡ bytes
-  Tells (counts ns) = map (λ k. k .count) (allTold begun (r .calls)) ≡ ns
-  Tells (numbers ns) = map (λ k. k .number) (allTold begun (r .calls)) ≡ ns
-  Tells (textWord word value) =
-      getD (end .memories .text) (wordPlace word false) 0 * 256 + getD (end .memories .text) (wordPlace word true) 0 ≡ value
-  Tells (graphicWord line column value) =
-      getD (end .memories .graphic) (graphicPlace line column false) 0 * 256
-      + getD (end .memories .graphic) (graphicPlace line column true) 0
-      ≡ value
-  Tells (reAndG re g) = (end .control .function .re ≡ re) × (end .control .function .g ≡ g)
-  Tells nothingStored = end .memories ≡ freshMemories
-  Tells (glyphNumber lead trail number) = numberOf lead trail ≡ Number number
-
-  AllTell : List Reading → Type 0
-  AllTell [] = Unit {0}
-  AllTell (reading ∷ readings) = Tells reading × AllTell readings
-
-  module _ (fits : Fits zeroFonts (replicate (r .frame) 0)) where
-    abbrev all : map told (answers zeroFonts begun (replicate (r .frame) 0) (r .calls)) ≡ allTold begun (r .calls)
-    all = all-told zeroFonts (r .calls) begun (replicate (r .frame) 0) fits
-
-    abbrev last : after zeroFonts begun (replicate (r .frame) 0) (r .calls) .state ≡ end
-    last = last-state zeroFonts (r .calls) begun (replicate (r .frame) 0) fits
-
-    reads : (reading : Reading) → Tells reading → Reads r reading
-    reads (replies bytes) h = map-told (λ k. k .reply) (answered r) ∙ ap (map (λ k. k .reply)) all ∙ h
-    reads (counts ns) h = map-told (λ k. k .count) (answered r) ∙ ap (map (λ k. k .count)) all ∙ h
-    reads (numbers ns) h = map-told (λ k. k .number) (answered r) ∙ ap (map (λ k. k .number)) all ∙ h
-    reads (textWord word value) h = rw last h
-    reads (graphicWord line column value) h = rw last h
-    reads (reAndG re g) h = rw last h
-    reads nothingStored h = rw last h
-    reads (glyphNumber lead trail number) h = h
-
-    all-read : (readings : List Reading) → AllTell readings → AllRead r readings
-    unfolding AllRead AllTell
-    all-read [] h = tt
-    all-read (reading ∷ readings) h = (reads reading (h .0), all-read readings (h .1))
+observed-told : (r : Row) → Fits zeroFonts (replicate (r .frame) 0) → observed r ≡ toldOf r
+observed-told r fits =
+    let answered = answers zeroFonts (freshState (r .parallel)) (replicate (r .frame) 0) (r .calls) in
+    let all = all-told zeroFonts (r .calls) (freshState (r .parallel)) (replicate (r .frame) 0) fits in
+    let last = last-state zeroFonts (r .calls) (freshState (r .parallel)) (replicate (r .frame) 0) fits in
+    rw (map-told (λ k. k .reply) answered, map-told (λ k. k .count) answered, map-told (λ k. k .number) answered, all, last)
 
 -- a row holds without its frame where the frame fits; where it does not, no frame is painted
 Holds : Row → Type 0
-Holds r = (Fits zeroFonts (replicate (r .frame) 0) × AllTell r (r .readings)) ⊎ AllRead r (r .readings)
+Holds r = (Fits zeroFonts (replicate (r .frame) 0) × AllRead (toldOf r) (r .readings)) ⊎ AllRead (observed r) (r .readings)
 
 AllRows : List Row → Type 0
 AllRows [] = Unit {0}
 AllRows (r ∷ rows) = Holds r × AllRows rows
 
-holds : (r : Row) → Holds r → AllRead r (r .readings)
+holds : (r : Row) → Holds r → AllRead (observed r) (r .readings)
 unfolding Holds
-holds r (inl h) = all-read r (h .0) (r .readings) (h .1)
+holds r (inl h) = subst (λ (o : Observed). AllRead o (r .readings)) (sym (observed-told r (h .0))) (h .1)
 holds r (inr h) = h
 
 all-hold : (rows : List Row) → AllRows rows → AllHold rows
@@ -163,7 +129,7 @@ all-hold [] h = tt
 all-hold (r ∷ rows) h = (holds r (h .0), all-hold rows (h .1))
 
 rows-hold : AllRows table
-unfolding AllRows Holds AllRead AllTell table allTold lastState tells answers called takenBy transferStep bitStep carriedOut executed written readOut statusRead obeyed said rowOf stored found moved movedOn instructionNames writeNames readNames covers inCell shownRow shownWord named countNamed count refusalOf fresh freshMemories freshState bitsOf heard counted afterHeader headerBit bodyBit completed numberOf
+unfolding AllRows Holds AllRead table allTold lastState tells answers called takenBy transferStep bitStep carriedOut executed written readOut statusRead obeyed said rowOf stored found moved movedOn instructionNames writeNames readNames covers inCell shownRow shownWord named countNamed count refusalOf fresh freshMemories freshState bitsOf heard counted afterHeader headerBit bodyBit completed numberOf
 rows-hold =
     (inl (refl, (refl, tt)),
     (inl (refl, (refl, tt)),

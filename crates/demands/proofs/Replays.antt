@@ -1,26 +1,24 @@
 -- A replay is the calls of its accepted records, one after another.
 use Prim.Native.Nat.{ℕ, zero, suc, _+_}
-use mathlib.Core.Bool.{Bool, true, false}
-use mathlib.Core.List.{List, [], _∷_, _++_, map, flatten}
-use mathlib.Core.Logic.{_≢_}
-use mathlib.Core.Path.{_≡_, refl, sym, ap, subst, _∙_}
+use mathlib.Core.Bool.{Bool, false}
+use mathlib.Core.List.{List, [], _∷_, map, flatten}
+use mathlib.Core.Path.{_≡_, refl, sym, ap, _∙_}
 use native.Mathlib.Omega.{arith}
 use lib.ListN.{length, take}
 use lib.Dec.{eqb}
-use borrow.Author.Tests.{eqb-true, eqb-false, eq-eqb}
-use Rattle.base.specs.Choice.{if_then_else_}
+use borrow.Author.Tests.{eqb-true, eqb-false}
 use Rattle.base.specs.Bits as bits
 use Rattle.base.proofs.Choice.{by-test}
 use Rattle.picture.specs.Picture.{Seen}
 use Rattle.picture.specs.Refusals.{refusalOf}
 use Rattle.lent.specs.State.{State}
-use Rattle.lent.specs.Calls.{Call, bit, called, Stands, after}
+use Rattle.lent.specs.Calls.{bit, called, Stands, after}
 use Rattle.sequences.proofs.Sequences.{after-append}
 use Rattle.capture.specs.Capture.{Recorded, contents}
 use Rattle.transcript.specs.Records.{heard, eightBits, recorded}
-use Rattle.transcript.specs.Replay.{Replayed, obeyed, replayed}
+use Rattle.transcript.specs.Replay.{obeyed, replayed}
 use Rattle.demands.specs.Captures.{callsOf, callsOfAll}
-use Rattle.demands.specs.Demand1.{TableSays, ReplayStops}
+use Rattle.demands.specs.Demand1.{ReplayStops}
 use Rattle.demands.proofs.Tables.{table-number}
 
 abbrev standsAt : State → List ℕ → Stands

@@ -1,17 +1,17 @@
 -- Each table of refusals gives one number, and it is the one that the definitions give.
-use Prim.Native.Nat.{ℕ, _≤_, _<_, _%_}
-use mathlib.Core.Bool.{Bool, true, false, not, _&&_, _||_, true≢false}
+use Prim.Native.Nat.{ℕ, _≤_, _%_}
+use mathlib.Core.Bool.{Bool, true, false, not, _||_, true≢false}
 use mathlib.Core.List.{List}
 use mathlib.Core.Logic.{_≢_}
-use mathlib.Core.Path.{_≡_, refl, sym, ap, subst, _∙_}
+use mathlib.Core.Path.{_≡_, refl, sym, subst, _∙_}
 use native.Mathlib.Omega.{arith}
 use lib.ListN.{length, getD}
 use lib.Dec.{eqb, ltb, leb}
-use borrow.Author.Tests.{eqb-true, eqb-false, ltb-true, ltb-false, leb-true, leb-false, not-true, not-false, eq-eqb, ne-eqb, le-ltb, lt-ltb, le-leb, lt-leb}
+use borrow.Author.Tests.{eqb-true, eqb-false, ltb-true, ltb-false, leb-true, leb-false, not-true, not-false, eq-eqb, ne-eqb, le-ltb, le-leb, lt-leb}
 use Rattle.base.specs.Choice.{if_then_else_}
 use Rattle.base.proofs.Choice.{either-told, by-test}
-use Rattle.base.proofs.Tests.{or-neither, or-else, and-both, never}
-use Rattle.links.specs.Sender.{Sent, leaving, sent}
+use Rattle.base.proofs.Tests.{or-neither, and-both, never}
+use Rattle.links.specs.Sender.{sent}
 use Rattle.picture.specs.Picture.{Seen}
 use Rattle.picture.specs.Refusals.{refusalOf}
 use Rattle.capture.specs.declared.Answer.{Answer}

@@ -15,7 +15,7 @@ use Rattle.links.specs.Sender.{sent, leaving}
 use Rattle.picture.specs.Picture.{Seen}
 use Rattle.picture.specs.Refusals.{drawn, leaves}
 use Rattle.lent.specs.State.{State}
-use Rattle.lent.specs.Calls.{Call, transfer, bit, selectLow, reset, called, refused, Stands, after}
+use Rattle.lent.specs.Calls.{Call, transfer, bit, selectLow, reset, called, refused, after}
 use Rattle.capture.specs.Record as records
 use Rattle.capture.specs.Capture.{contents}
 use Rattle.transcript.specs.Replay.{Replayed, replayed}

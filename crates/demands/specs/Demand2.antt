@@ -16,7 +16,7 @@ use Rattle.links.specs.Connector.{Way}
 use Rattle.picture.specs.Picture.{Seen, picture}
 use Rattle.picture.specs.Refusals.{leaves, drawn}
 use Rattle.lent.specs.State.{State}
-use Rattle.lent.specs.Calls.{Call, Called, called}
+use Rattle.lent.specs.Calls.{Call, called}
 use Rattle.sequences.specs.Wires.{Fits, answers, items, idleOn, spelt, HasWidth, SetsWidth}
 use Rattle.sequences.specs.Agreement.{TransferIsConnected, BitIsConnected, SentIsReceived, SameButLinkAndDl, Agree}
 use Rattle.panel.specs.declared.Panel.{Panel}

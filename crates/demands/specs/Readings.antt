@@ -14,7 +14,7 @@ use Rattle.glyph.specs.Numbering.{numberOf}
 use Rattle.picture.specs.Picture.{Seen}
 use Rattle.lent.specs.State.{State, freshState}
 use Rattle.lent.specs.Calls as calls
-use Rattle.lent.specs.Calls.{Call, Called, transfer, after}
+use Rattle.lent.specs.Calls.{Call, transfer, after}
 use Rattle.sequences.specs.Wires.{answers}
 
 -- the calls as the table writes them
@@ -89,34 +89,45 @@ table =
 abbrev pub zeroFonts : Seen
 zeroFonts = record { half = replicate 2048 0; full = []; phase = false }
 
-module _ (r : Row) where
-  abbrev pub answered : List Called
-  answered = answers zeroFonts (freshState (r .parallel)) (replicate (r .frame) 0) (r .calls)
+-- what can be read off a panel after some calls
+pub record Observed : Type 0 where
+  pub replies : List ℕ
+  pub counts : List ℕ
+  pub numbers : List ℕ
+  pub end : State
 
-  abbrev pub end : State
-  end = after zeroFonts (freshState (r .parallel)) (replicate (r .frame) 0) (r .calls) .state
+abbrev pub observed : Row → Observed
+observed r =
+    let answered = answers zeroFonts (freshState (r .parallel)) (replicate (r .frame) 0) (r .calls) in
+    record {
+      replies = map (λ k. k .reply) answered;
+      counts = map (λ k. k .count) answered;
+      numbers = map (λ k. k .number) answered;
+      end = after zeroFonts (freshState (r .parallel)) (replicate (r .frame) 0) (r .calls) .state;
+    }
 
-  abbrev pub Reads : Reading → Type 0
-  Reads (replies bytes) = map (λ k. k .reply) answered ≡ bytes
-  Reads (counts ns) = map (λ k. k .count) answered ≡ ns
-  Reads (numbers ns) = map (λ k. k .number) answered ≡ ns
-  Reads (textWord word value) =
-      getD (end .memories .text) (wordPlace word false) 0 * 256 + getD (end .memories .text) (wordPlace word true) 0 ≡ value
-  Reads (graphicWord line column value) =
-      getD (end .memories .graphic) (graphicPlace line column false) 0 * 256
-      + getD (end .memories .graphic) (graphicPlace line column true) 0
-      ≡ value
-  Reads (reAndG re g) = (end .control .function .re ≡ re) × (end .control .function .g ≡ g)
-  Reads nothingStored = end .memories ≡ freshMemories
-  Reads (glyphNumber lead trail number) = numberOf lead trail ≡ Number number
+-- a word of a memory, of its two halves
+abbrev pub wordOf : List ℕ → ℕ → ℕ → ℕ
+wordOf memory high low = getD memory high 0 * 256 + getD memory low 0
 
-  unfoldable pub AllRead : List Reading → Type 0
-  AllRead [] = Unit {0}
-  AllRead (reading ∷ readings) = Reads reading × AllRead readings
+abbrev pub Reads : Observed → Reading → Type 0
+Reads o (replies bytes) = o .replies ≡ bytes
+Reads o (counts ns) = o .counts ≡ ns
+Reads o (numbers ns) = o .numbers ≡ ns
+Reads o (textWord word value) = wordOf (o .end .memories .text) (wordPlace word false) (wordPlace word true) ≡ value
+Reads o (graphicWord line column value) =
+    wordOf (o .end .memories .graphic) (graphicPlace line column false) (graphicPlace line column true) ≡ value
+Reads o (reAndG re g) = (o .end .control .function .re ≡ re) × (o .end .control .function .g ≡ g)
+Reads o nothingStored = o .end .memories ≡ freshMemories
+Reads o (glyphNumber lead trail number) = numberOf lead trail ≡ Number number
+
+unfoldable pub AllRead : Observed → List Reading → Type 0
+AllRead o [] = Unit {0}
+AllRead o (reading ∷ readings) = Reads o reading × AllRead o readings
 
 unfoldable pub AllHold : List Row → Type 0
 AllHold [] = Unit {0}
-AllHold (r ∷ rows) = AllRead r (r .readings) × AllHold rows
+AllHold (r ∷ rows) = AllRead (observed r) (r .readings) × AllHold rows
 
 abbrev pub ReadingsHold : Type 0
 ReadingsHold = AllHold table

@@ -5,7 +5,6 @@ use mathlib.Core.Logic.{_≢_}
 use mathlib.Core.List.{List}
 use mathlib.Core.Path.{_≡_, refl, _∙_, sym, ap}
 use lib.ListN.{length}
-use lib.Dec.{eqb}
 use borrow.Author.Tests.{eq-eqb, ne-eqb}
 use Rattle.controller.specs.declared.Control.{Control}
 use Rattle.controller.specs.Memories.{Memories}
@@ -18,7 +17,7 @@ use Rattle.picture.specs.Picture.{Seen}
 use Rattle.picture.specs.Refusals.{refusalOf}
 use Rattle.lent.specs.State.{State}
 use Rattle.lent.specs.Steps.{Stepped, transferStep, bitStep, selectLowStep, resetStep}
-use Rattle.lent.specs.Calls.{Call, transfer, bit, selectLow, reset, Taken, otherLink, taken, takenBy, refused, accepted, unlessOther, called}
+use Rattle.lent.specs.Calls.{Call, transfer, bit, selectLow, reset, otherLink, taken, takenBy, refused, accepted, unlessOther, called}
 
 module _ (e : Seen) (s : State) (f : List ℕ) (call : Call) (n : ℕ) (is : n ≡ refusalOf (length f) (length (e .half)) (length (e .full))) where
   pub refuses : n ≢ 0 → refused s f n ≡ called e s f call

@@ -11,7 +11,7 @@ use Rattle.controller.specs.Memories.{Memories}
 use Rattle.controller.specs.State.{InRange}
 use Rattle.controller.specs.Instructions.{obeyed, modes}
 use Rattle.controller.specs.Data.{movedOn}
-use Rattle.controller.specs.Transfers.{Acted, executed, written, readOut, statusRead}
+use Rattle.controller.specs.Transfers.{executed, written, readOut, statusRead}
 use Rattle.controller.proofs.Within.{said-within}
 use Rattle.controller.proofs.Kept.{fresh-in-range, obeyed-in-range, movedOn-in-range, dummyRead-in-range}
 use Rattle.links.specs.declared.Transfer.{Transfer}

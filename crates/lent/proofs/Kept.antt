@@ -1,6 +1,6 @@
 -- Every call hands on a valid state: an accepted one by what each transfer keeps, a refused one as it was.
 use Prim.Native.Nat.{ℕ}
-use mathlib.Core.Bool.{Bool, true, false}
+use mathlib.Core.Bool.{Bool}
 use mathlib.Core.List.{List}
 use Prim.{Unit}
 use mathlib.Core.Path.{_≡_, sym, subst}

@@ -1,6 +1,6 @@
 -- Document 01, "Refusal numbers": each call whole, with its refusals, its answer, and what it leaves in the state and the frame.
 use Prim.Native.Nat.{ℕ}
-use mathlib.Core.Bool.{Bool, true, false}
+use mathlib.Core.Bool.{Bool}
 use mathlib.Core.List.{List, [], _∷_}
 use lib.ListN.{length}
 use lib.Dec.{eqb}

@@ -1,5 +1,4 @@
 -- Document 01, "Memories and flags": the state of a panel, whole.
-use Prim.Native.Nat.{ℕ}
 use mathlib.Core.Bool.{Bool}
 use Rattle.controller.specs.declared.Control.{Control}
 use Rattle.controller.specs.Memories.{Memories, freshMemories}

@@ -1,6 +1,6 @@
 -- Document 01, "Links" and "Instructions": what each accepted call does to the state, its reply, and the region it names.
 use Prim.Native.Nat.{ℕ}
-use mathlib.Core.Bool.{Bool, true, false}
+use mathlib.Core.Bool.{Bool}
 use Rattle.base.specs.Choice.{if_then_else_}
 use Rattle.controller.specs.declared.Control.{Control}
 use Rattle.controller.specs.declared.Region.the-variants.{Nothing, Whole}

@@ -9,12 +9,11 @@ use lib.ListN.{length}
 use lib.Dec.{eqb}
 use Rattle.base.specs.Choice.{if_then_else_}
 use Rattle.base.specs.Painting.{count}
-use Rattle.base.proofs.Choice.{either, either-told}
+use Rattle.base.proofs.Choice.{either}
 use Rattle.table.specs.declared.Target.{Target}
 use Rattle.table.specs.declared.Target.the-variants.{Text, Glyph, Graphic}
 use Rattle.controller.specs.declared.Control.{Control}
 use Rattle.controller.specs.declared.Place.{Place}
-use Rattle.controller.specs.declared.View.{View}
 use Rattle.controller.specs.declared.Region.{Region}
 use Rattle.controller.specs.declared.Region.the-variants.{Nothing}
 use Rattle.controller.specs.declared.Done.{Done}
@@ -37,9 +36,9 @@ use Rattle.picture.specs.Refusals.{refusalOf}
 use Rattle.repaint.specs.Repaint.{named, countNamed}
 use Rattle.repaint.proofs.Counts.{count-cells, count-glyph, count-graphic, count-nothing}
 use Rattle.lent.specs.State.{State}
-use Rattle.lent.specs.Steps.{Stepped, carriedOut, halfStep, transferStep, receivedActs, bitStep}
+use Rattle.lent.specs.Steps.{carriedOut, halfStep, transferStep, receivedActs, bitStep}
 use Rattle.lent.specs.Calls.{Call, transfer, bit, selectLow, reset, Taken, otherLink, taken, takenBy, Called, unlessOther, called}
-use Rattle.sequences.specs.Carried.{Carried, nothing, whole, halfCarries, receivedCarries, carries, isData}
+use Rattle.sequences.specs.Carried.{nothing, whole, halfCarries, receivedCarries, carries, isData}
 
 -- the count of what a transfer names
 abbrev pub countOf : Acted → ℕ

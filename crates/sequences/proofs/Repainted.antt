@@ -2,18 +2,16 @@
 -- picture drawn afresh; and so over any sequence of calls.
 use Prim.{Unit}
 use Prim.Native.Nat.{ℕ, _<_, _/_, _%_}
-use mathlib.Core.Bool.{Bool, true, false, true≢false}
-use mathlib.Core.List.{List, [], _∷_}
-use mathlib.Core.Path.{_≡_, refl, _∙_}
+use mathlib.Core.Bool.{Bool, false}
+use mathlib.Core.Path.{_≡_, refl}
 use native.Mathlib.Omega.{arith}
 use lib.ListN.{length}
 use lib.Dec.{eqb}
-use Rattle.base.specs.Lists.{upto}
 use Rattle.base.proofs.Choice.{either}
 use Rattle.base.proofs.Painting.{painted-old}
 use Rattle.table.specs.Table.{said}
 use Rattle.controller.specs.declared.Control.{Control}
-use Rattle.controller.specs.declared.Region.the-variants.{Nothing, Whole}
+use Rattle.controller.specs.declared.Region.the-variants.{Nothing}
 use Rattle.controller.specs.Memories.{Memories}
 use Rattle.controller.specs.State.{InRange}
 use Rattle.controller.specs.Instructions.{modes}
@@ -26,7 +24,6 @@ use Rattle.links.specs.declared.Transfer.the-variants.{Instruct, Write, Status,
 use Rattle.links.specs.declared.Pairing.{Pairing}
 use Rattle.links.specs.declared.Half.{Half}
 use Rattle.links.specs.declared.Half.the-variants.{Kept, Acts, Answers}
-use Rattle.links.specs.declared.Receiver.{Receiver}
 use Rattle.links.specs.declared.Received.{Received}
 use Rattle.links.specs.declared.Received.the-variants as received
 use Rattle.links.specs.Halves as halves
@@ -36,9 +33,8 @@ use Rattle.picture.specs.Refusals.{refusalOf}
 use Rattle.repaint.specs.Repaint.{named, repainted}
 use Rattle.repaint.proofs.Unnamed.{never-whole, obeyed-unnamed, written-unnamed, readOut-unnamed}
 use Rattle.lent.specs.State.{State, Valid}
-use Rattle.lent.specs.Steps.{Stepped, carriedOut, unmoved, halfStep, transferStep, receivedActs, bitStep, selectLowStep, resetStep}
+use Rattle.lent.specs.Steps.{Stepped, carriedOut, halfStep, transferStep, receivedActs, bitStep, selectLowStep, resetStep}
 use Rattle.lent.specs.Calls.{Call, transfer, bit, selectLow, reset, Taken, otherLink, taken, takenBy, Called, unlessOther, called}
-use Rattle.lent.proofs.Kept.{called-valid}
 
 -- the bytes that are not named in what a transfer leaves are those of the picture of m and c
 abbrev pub UnnamedKept : Seen → Memories → Control → Acted → Type 0

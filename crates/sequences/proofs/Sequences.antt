@@ -1,10 +1,10 @@
 -- Over any sequence of calls, fonts and phase held, the frame goes on showing the picture.
 use Prim.Native.Nat.{ℕ}
 use mathlib.Core.List.{List, [], _∷_, _++_}
-use mathlib.Core.Path.{_≡_, refl, _∙_, ap}
+use mathlib.Core.Path.{_≡_, refl}
 use Rattle.picture.specs.Picture.{Seen, picture}
 use Rattle.lent.specs.State.{State, Valid}
-use Rattle.lent.specs.Calls.{Call, called, Stands, after}
+use Rattle.lent.specs.Calls.{Call, called, after}
 use Rattle.lent.proofs.Kept.{called-valid}
 use Rattle.sequences.proofs.Repainted.{called-shows}
 

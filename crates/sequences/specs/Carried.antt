@@ -1,5 +1,4 @@
 -- Document 01, "Links": the whole transfer that a call carries out, if it carries one out.
-use Prim.Native.Nat.{ℕ}
 use mathlib.Core.Bool.{Bool, true, false}
 use Rattle.base.specs.Choice.{if_then_else_}
 use Rattle.controller.specs.declared.Control.{Control}
