@@ -1,7 +1,7 @@
 -- The controls as bytes: target, counter, row, half next, dummy due, whether a row waits and which, I/D, S, display, cursor, blink,
 -- DL, RE, G, SR, standby, scroll, shift, and the four reversed lines. A flag is bit 0 of its byte, a number the bits it has room for.
 use Prim.Native.Nat.{ℕ, _%_}
-use mathlib.Core.Bool.{Bool}
+use mathlib.Core.Bool.{Bool, false}
 use mathlib.Core.List.{List, [], _∷_}
 use lib.ListN.{getD}
 use lib.Dec.{eqb}
@@ -59,3 +59,35 @@ unpacked b =
       view = viewOf b;
       standby = flag (getD b 16 0);
     }
+
+-- the same the other way: the controls as such bytes. A flag is 0 or 1
+abbrev pub flagByte : Bool → ℕ
+flagByte on = if on then 1 else 0
+
+abbrev pub targetByte : Target → ℕ
+targetByte Text = 0
+targetByte Glyph = 1
+targetByte Graphic = 2
+
+abbrev pub waitsByte : Waiting → ℕ
+waitsByte Nothing = 0
+waitsByte (Row y) = 1
+
+-- where no row waits, its byte is 0
+abbrev pub waitingByte : Waiting → ℕ
+waitingByte Nothing = 0
+waitingByte (Row y) = y
+
+abbrev pub lineByte : View → ℕ → ℕ
+lineByte v line = flagByte (getD (v .reversed) line false)
+
+unfoldable pub packed : Control → List ℕ
+packed c =
+    targetByte (c .place .target) ∷ c .place .counter ∷ c .place .row ∷ flagByte (c .place .low) ∷ flagByte (c .place .dummy)
+    ∷ waitsByte (c .place .waiting) ∷ waitingByte (c .place .waiting)
+    ∷ flagByte (c .entry .id) ∷ flagByte (c .entry .s)
+    ∷ flagByte (c .shown .display) ∷ flagByte (c .shown .cursor) ∷ flagByte (c .shown .blink)
+    ∷ flagByte (c .function .dl) ∷ flagByte (c .function .re) ∷ flagByte (c .function .g)
+    ∷ flagByte (c .sr) ∷ flagByte (c .standby)
+    ∷ c .view .scroll ∷ c .view .shift
+    ∷ lineByte (c .view) 0 ∷ lineByte (c .view) 1 ∷ lineByte (c .view) 2 ∷ lineByte (c .view) 3 ∷ []

@@ -1,123 +1,22 @@
-// Functions for C or Rust to link: numbers and byte slices alone cross the border. The controls cross it as 23 bytes, in the order
-// in which `unpacked` reads them; a byte that is out of range counts by the bits that it should have, so nothing is asked of a caller.
-use controller::Control;
-use controller::Entry;
-use controller::Function;
-use controller::Place;
-use controller::Shown;
-use controller::View;
-use controller::Waiting;
-use table::Target;
+// Functions for C or Rust to link: numbers and byte slices alone cross the border. A state crosses it as 2,337 bytes, and its controls
+// alone as 23 of them. Nothing is asked of a caller.
+mod packing;
+mod spelling;
+mod unpacking;
+
+use panel::Made;
+use panel::Panel;
+use picture::refusals::refusal;
+use spelling::last_bytes;
+use spelling::spell_state;
+use unpacking::unpack;
 ghost use mathlib.Core.Path.{_≡_};
-ghost use Prim.Native.Nat.{_<_};
-ghost use lib.ListN.{length};
 ghost use Rattle.controller.specs.Memories.{before};
 ghost use Rattle.picture.specs.Picture.{seen};
 ghost use Rattle.picture.specs.Refusals.{leaves, drawn};
-ghost use Rattle.boundary.specs.Packed.{flag, targetOf, counterOf, waitingOf, placeOf, viewOf, unpacked};
-
-fn flag(byte: u8) -> bool
-    ensures { λ r. ⌜ r ≡ flag byte ⌝ }
-{
-    byte % 2 == 1
-}
-
-fn target(byte: u8) -> Target
-    ensures { λ r. ⌜ r ≡ targetOf byte ⌝ }
-{
-    if byte % 4 == 0 {
-        return Target::Text;
-    }
-    if byte % 4 == 1 {
-        return Target::Glyph;
-    }
-    Target::Graphic
-}
-
-// The counter has 6 bits for text and glyph memory, 4 for graphic memory.
-fn counter(target: Target, byte: u8) -> u8
-    ensures { λ r. ⌜ r ≡ counterOf target byte ⌝ }
-{
-    match target {
-        Target::Text => byte % 64,
-        Target::Glyph => byte % 64,
-        Target::Graphic => byte % 16,
-    }
-}
-
-fn waiting(waits: bool, row: u8) -> Waiting
-    ensures { λ r. ⌜ r ≡ waitingOf waits row ⌝ }
-{
-    if waits {
-        return Waiting::Row(row % 64);
-    }
-    Waiting::Nothing
-}
-
-fn place(bytes: &[u8; 23]) -> Place
-    ensures { λ r. ⌜ r ≡ placeOf (now (bytes .entry)) ⌝ }
-{
-    let target = target(bytes[0]);
-    let counter = counter(target, bytes[1]);
-    let low = flag(bytes[3]);
-    let dummy = flag(bytes[4]);
-    let waits = flag(bytes[5]);
-    let waiting = waiting(waits, bytes[6]);
-    Place {
-        target,
-        counter,
-        row: bytes[2] % 64,
-        low,
-        dummy,
-        waiting,
-    }
-}
-
-fn view(bytes: &[u8; 23]) -> View
-    ensures { λ r. ⌜ r ≡ viewOf (now (bytes .entry)) ⌝ }
-{
-    View {
-        scroll: bytes[17] % 64,
-        shift: bytes[18] % 16,
-        reversed: [
-            bytes[19] % 2 == 1,
-            bytes[20] % 2 == 1,
-            bytes[21] % 2 == 1,
-            bytes[22] % 2 == 1,
-        ],
-    }
-}
-
-// The controls that 23 bytes spell.
-fn unpack(bytes: &[u8; 23]) -> Control
-    ensures { λ r. ⌜ r ≡ unpacked (now (bytes .entry)) ⌝ }
-{
-    let place = place(bytes);
-    let view = view(bytes);
-    let id = flag(bytes[7]);
-    let s = flag(bytes[8]);
-    let display = flag(bytes[9]);
-    let cursor = flag(bytes[10]);
-    let blink = flag(bytes[11]);
-    let dl = flag(bytes[12]);
-    let re = flag(bytes[13]);
-    let g = flag(bytes[14]);
-    let sr = flag(bytes[15]);
-    let standby = flag(bytes[16]);
-    Control {
-        place,
-        entry: Entry { id, s },
-        shown: Shown {
-            display,
-            cursor,
-            blink,
-        },
-        function: Function { dl, re, g },
-        sr,
-        view,
-        standby,
-    }
-}
+ghost use Rattle.links.specs.Sender.{leaving, sent};
+ghost use Rattle.boundary.specs.Packed.{unpacked};
+ghost use Rattle.boundary.specs.Report.{report, freshReplay};
 
 // Draws the picture of a state into the frame, and answers 0 or the refusal's number.
 #[no_mangle]
@@ -135,4 +34,40 @@ pub extern "C" fn zifqarell_draw(
 {
     let control = unpack(control);
     picture::draw::draw(text, glyph, graphic, control, frame, half, full, phase)
+}
+
+// Puts the three bytes that carry a write over the serial link into the buffer, and answers 0 or the refusal's number.
+#[no_mangle]
+pub extern "C" fn zifqarell_send(register: bool, byte: u8, buffer: &mut [u8]) -> u8
+    ensures { λ r. ⌜ leaving r (now (buffer .exit)) ≡ sent register byte (now (buffer .entry)) ⌝ }
+{
+    links::send(register, byte, buffer)
+}
+
+// Replays a capture on a fresh panel, and answers the number with which that stopped, 0 at the end of the capture. Leaves the
+// state in which the panel then is, and the place with what the last accepted record answered. Refused with 1, 2 or 3 it leaves
+// all that it was lent.
+#[no_mangle]
+pub extern "C" fn zifqarell_replay(
+    parallel: bool,
+    capture: &[u8],
+    frame: &mut [u8],
+    half: &[u8],
+    full: &[u8],
+    phase: bool,
+    state: &mut [u8; 2337],
+    last: &mut [u8; 11],
+) -> u8
+    ensures { λ r. ⌜ report r (now (frame .exit)) (now (state .exit)) (now (last .exit)) ≡ freshReplay parallel (seen half full phase) (now (capture .entry)) (now (frame .entry)) (now (state .entry)) (now (last .entry)) ⌝ }
+{
+    let number = refusal(frame.len(), half.len(), full.len());
+    if number != 0 {
+        return number;
+    }
+    let fresh = Panel::fresh(Made { parallel });
+    let stop = transcript::replay(fresh, capture, frame, half, full, phase);
+    let panel = stop.panel;
+    spell_state(panel, state);
+    *last = last_bytes(stop.place, stop.reply, stop.count);
+    stop.number
 }

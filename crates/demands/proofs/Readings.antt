@@ -130,22 +130,49 @@ all-hold (r ∷ rows) h = (holds r (h .0), all-hold rows (h .1))
 
 rows-hold : AllRows table
 unfolding AllRows Holds AllRead table allTold lastState tells answers called takenBy transferStep bitStep carriedOut executed written readOut statusRead obeyed said rowOf stored found moved movedOn instructionNames writeNames readNames covers inCell shownRow shownWord named countNamed count refusalOf fresh freshMemories freshState bitsOf heard counted afterHeader headerBit bodyBit completed numberOf
-rows-hold =
-    (inl (refl, (refl, tt)),
-    (inl (refl, (refl, tt)),
-    (inl (refl, (refl, (refl, (refl, tt)))),
-    (inl (refl, (refl, tt)),
-    (inl (refl, (refl, (refl, tt))),
-    (inl (refl, (refl, tt)),
-    (inl (refl, ((refl, refl), tt)),
-    (inl (refl, ((refl, refl), tt)),
-    (inl (refl, (refl, (refl, tt))),
-    (inl (refl, (refl, (refl, tt))),
-    (inr (refl, tt),
-    (inr (refl, tt),
-    (inl (refl, (refl, tt)),
-    (inl (refl, (refl, tt)),
-    tt))))))))))))))
+rows-hold = (
+  inl (refl, (refl, tt)),
+  (
+    inl (refl, (refl, tt)),
+    (
+      inl (refl, (refl, (refl, (refl, tt)))),
+      (
+        inl (refl, (refl, tt)),
+        (
+          inl (refl, (refl, (refl, tt))),
+          (
+            inl (refl, (refl, tt)),
+            (
+              inl (refl, ((refl, refl), tt)),
+              (
+                inl (refl, ((refl, refl), tt)),
+                (
+                  inl (refl, (refl, (refl, tt))),
+                  (
+                    inl (refl, (refl, (refl, tt))),
+                    (
+                      inr (refl, tt),
+                      (
+                        inr (refl, tt),
+                        (
+                          inl (refl, (refl, tt)),
+                          (
+                            inl (refl, (refl, tt)),
+                            tt,
+                          ),
+                        ),
+                      ),
+                    ),
+                  ),
+                ),
+              ),
+            ),
+          ),
+        ),
+      ),
+    ),
+  ),
+)
 
 pub readings-hold : ReadingsHold
 readings-hold = all-hold table rows-hold

@@ -56,8 +56,11 @@ module _ (e : Seen) (frame : List ℕ) (other : Bool) where
   table-number n (frameLength g) = rw (ne-eqb (length frame) 1024 g)
   table-number n (halfFontLength f g) = rw (eq-eqb (length frame) 1024 f, ne-eqb (length (e .half)) 2048 g)
   table-number n (fullFontLength f h g) =
-      rw (eq-eqb (length frame) 1024 f, eq-eqb (length (e .half)) 2048 h,
-      by-test (not (eqb (length (e .full) % 32) 0) || ltb 267264 (length (e .full))) (λ t. t) (λ d. absurd (g (full-good e d))))
+      rw (
+        eq-eqb (length frame) 1024 f,
+        eq-eqb (length (e .half)) 2048 h,
+        by-test (not (eqb (length (e .full) % 32) 0) || ltb 267264 (length (e .full))) (λ t. t) (λ d. absurd (g (full-good e d))),
+      )
   table-number n (otherLink f h g o) = rw (eq-eqb (length frame) 1024 f, eq-eqb (length (e .half)) 2048 h, good-full e g, o)
   table-number n (accepted f h g o) = rw (eq-eqb (length frame) 1024 f, eq-eqb (length (e .half)) 2048 h, good-full e g, o)
 
@@ -131,17 +134,30 @@ module _ (c : List ℕ) where
   unfolding records.answer
   record-number n (demands.remain a b) = rw (ne-eqb (length c) 0 (λ z. omega arith), le-leb (length c) 3 b)
   record-number n (demands.mark a g) =
-      rw (ne-eqb (length c) 0 (λ z. omega arith), lt-leb (length c) 3 a,
-      never (records.marked (getD c 0 0) (getD c 1 0)) (λ t. g (marked-is t)))
+      rw (
+        ne-eqb (length c) 0 (λ z. omega arith),
+        lt-leb (length c) 3 a,
+        never (records.marked (getD c 0 0) (getD c 1 0)) (λ t. g (marked-is t)),
+      )
   record-number n (demands.kind a m k) =
       rw (ne-eqb (length c) 0 (λ z. omega arith), lt-leb (length c) 3 a, is-marked m, lt-leb (records.kindOf c) 6 k)
   record-number n (demands.value a m k g) =
-      rw (ne-eqb (length c) 0 (λ z. omega arith), lt-leb (length c) 3 a, is-marked m, le-leb (records.kindOf c) 6 k,
-      never (records.allowed (records.kindOf c) (records.valueOf c)) (λ t. g (allowed-is (records.kindOf c) (records.valueOf c) t)))
+      rw (
+        ne-eqb (length c) 0 (λ z. omega arith),
+        lt-leb (length c) 3 a,
+        is-marked m,
+        le-leb (records.kindOf c) 6 k,
+        never (records.allowed (records.kindOf c) (records.valueOf c)) (λ t. g (allowed-is (records.kindOf c) (records.valueOf c) t)),
+      )
   record-number n (demands.end z) = rw (eq-eqb (length c) 0 z)
   record-number n (demands.good a m k v) =
-      rw (ne-eqb (length c) 0 (λ z. omega arith), lt-leb (length c) 3 a, is-marked m, le-leb (records.kindOf c) 6 k,
-      is-allowed (records.kindOf c) (records.valueOf c) v)
+      rw (
+        ne-eqb (length c) 0 (λ z. omega arith),
+        lt-leb (length c) 3 a,
+        is-marked m,
+        le-leb (records.kindOf c) 6 k,
+        is-allowed (records.kindOf c) (records.valueOf c) v,
+      )
 
   pub record-once : OneNumber (RecordSays c)
   record-once m n x y = record-number m x ∙ sym (record-number n y)

@@ -4,7 +4,7 @@ use libc::STDIN_FILENO;
 use libc::STDOUT_FILENO;
 use panel::Made;
 use panel::Panel;
-use transcript::Stop;
+use transcript::Told;
 ghost use Prim.Native.Nat.{_+_, _≤_, _<_, _^_};
 ghost use lib.ListN.{length};
 ghost use Rattle.lent.specs.State.{Valid};
@@ -19,7 +19,7 @@ struct Filled {
 
 // How far a part came, whether the capture goes on, and whether reading or writing failed.
 struct Came {
-    stop: Stop,
+    told: Told,
     more: bool,
     unread: bool,
     unwritten: bool,
@@ -64,7 +64,7 @@ fn fill(buffer: &mut [u8]) -> Filled
 // One part of the capture: 4,096 bytes, so that no record lies across two parts, or what is left. Its lines fit into 65,536 bytes.
 fn part(panel: Panel, place: usize, frame: &mut [u8; 1024]) -> Came
     requires { ⌜ Valid (stateOf panel) × (place < 2 ^ 63) ⌝ }
-    ensures { λ r. ⌜ Valid (stateOf (r .stop .panel)) ⌝ }
+    ensures { λ r. ⌜ Valid (stateOf (r .told .panel)) ⌝ }
 {
     let half = [0u8; 2048];
     let full = [0u8; 0];
@@ -84,11 +84,10 @@ fn part(panel: Panel, place: usize, frame: &mut [u8; 1024]) -> Came
         &mut text,
     );
     let length = told.filled;
-    let stop = told.stop;
-    let number = stop.number;
+    let number = told.number;
     let written = io::write_all(STDOUT_FILENO, &text[..length]);
     Came {
-        stop,
+        told,
         more: n == 4096 && number == 0,
         unread,
         unwritten: !written,
@@ -112,7 +111,7 @@ fn main() {
             return;
         }
         let came = part(panel, place, &mut frame);
-        let stop = came.stop;
+        let stop = came.told;
         if came.unwritten {
             os::fail(b"write");
             return;

@@ -16,7 +16,7 @@ use Rattle.capture.specs.Capture.{Contents, contents, answerAt, passed}
 use Rattle.capture.proofs.Answers.{record-within}
 use Rattle.capture.proofs.Contents.{contents-at-record, contents-at-stop}
 use Rattle.transcript.specs.Records.{recorded}
-use Rattle.transcript.specs.Replay.{Answered, Ending, endingAt, Replayed, halted, answered, afterAnswer, obeyed, obeyedAll, replayed}
+use Rattle.transcript.specs.Replay.{Answered, Ending, endingAt, Replayed, halted, answered, afterAnswer, obeyed, obeyedAll, replayed, lastOr, unanswered, Stopped, stopped}
 use Rattle.transcript.proofs.Refused.{recorded-unmoved, recorded-length}
 
 -- answers before those of a replay
@@ -25,6 +25,25 @@ afterAnswers before r = record { answers = before ++ r .answers; ending = r .end
 
 pub one-more : (before : List Answered) (a : Answered) (r : Replayed) → afterAnswers before (afterAnswer a r) ≡ afterAnswers (before ++ (a ∷ [])) r
 one-more before a r = ap (λ (l : List Answered). record { answers = l; ending = r .ending }) (sym (append-assoc before (a ∷ []) (r .answers)))
+
+-- what the last of some answers was
+abbrev pub Last : ℕ → ℕ → List Answered → Type 0
+Last reply count l = (lastOr unanswered l .reply ≡ reply) × (lastOr unanswered l .count ≡ count)
+
+last-of-more : (d : Answered) (l : List Answered) (a : Answered) → lastOr d (l ++ (a ∷ [])) ≡ a
+unfolding lastOr
+last-of-more d [] a = refl
+last-of-more d (b ∷ l) a = last-of-more b l a
+
+abbrev pub stopAt : State → List ℕ → ℕ → ℕ → ℕ → ℕ → Stopped
+stopAt s f n m reply count = record { ending = endingAt s f n m; reply = reply; count = count }
+
+stops-after :
+    (before : List Answered) {s : State} {f : List ℕ} {n m reply count : ℕ} {r : Replayed}
+    → afterAnswers before (halted s f n m) ≡ r
+    → Last reply count before
+    → stopAt s f n m reply count ≡ stopped r
+stops-after before is l = rw (← is, append-nil, l .0, l .1)
 
 module _ (e : Seen) (c : List ℕ) (s : State) (f : List ℕ) (n at : ℕ) where
   -- an accepted record answers, and the rest is replayed on what it left
@@ -113,14 +132,6 @@ module _ (e : Seen) (c : List ℕ) (s₀ : State) (f₀ : List ℕ) (n₀ : ℕ)
         ap (λ (x : Called). afterAnswers (g .before) (halted s (x .frame) n (k .number))) still
         ∙ sym (g .same ∙ ap (afterAnswers (g .before)) (obeyed-refused e c s f n at k h is z))
 
-    pub refuses :
-        {kind value : ℕ} (k : Called)
-        → answerAt c at ≡ Record kind value
-        → k ≡ recorded e kind value s f
-        → (k .number ≡ 0 → ⊥)
-        → endingAt s (k .frame) n (k .number) ≡ obeyedAll e (contents c) s₀ f₀ n₀ .ending
-    refuses k h is z = ap (λ (x : Replayed). x .ending) (refused-here k h is z)
-
     -- what is no record
     pub stopped-here :
         (m : ℕ)
@@ -131,5 +142,55 @@ module _ (e : Seen) (c : List ℕ) (s₀ : State) (f₀ : List ℕ) (n₀ : ℕ)
         ap (λ (x : ℕ). afterAnswers (g .before) (halted s f n x)) is
         ∙ sym (g .same ∙ ap (afterAnswers (g .before)) (obeyed-stop e c s f n at h))
 
-    pub stops : (m : ℕ) → passed (answerAt c at) ≡ 0 → m ≡ number (answerAt c at) → endingAt s f n m ≡ obeyedAll e (contents c) s₀ f₀ n₀ .ending
-    stops m h is = ap (λ (x : Replayed). x .ending) (stopped-here m h is)
+  -- and what the last accepted record answered
+  pub record Replaying (s : State) (f : List ℕ) (n at reply count : ℕ) : Type 0 where
+    pub going : Going s f n at
+    pub last : Last reply count (going .before)
+
+  pub starts : Valid s₀ → Replaying s₀ f₀ n₀ 0 0 0
+  unfolding begins lastOr
+  starts v = record { going = begins v; last = (refl, refl) }
+
+  pub refuses-all :
+      (m : ℕ)
+      → m ≡ refusalOf (length f₀) (length (e .half)) (length (e .full))
+      → (m ≡ 0 → ⊥)
+      → stopAt s₀ f₀ n₀ m 0 0 ≡ stopped (replayed e c s₀ f₀ n₀)
+  unfolding lastOr
+  refuses-all m is h = stops-after [] (turned-away m is h) (refl, refl)
+
+  module _ {s : State} {f : List ℕ} {n at reply count : ℕ} (g : Replaying s f n at reply count) where
+    pub goes-on :
+        {kind value : ℕ} (k : Called)
+        → answerAt c at ≡ Record kind value
+        → k ≡ recorded e kind value s f
+        → k .number ≡ 0
+        → Valid (k .state)
+        → Replaying (k .state) (k .frame) (n + 1) (at + 4) (k .reply) (k .count)
+    unfolding turns
+    goes-on {kind} k h is z v =
+        let more = last-of-more unanswered (g .going .before) (answered kind k) in
+        record {
+          going = turns (g .going) k h is z v;
+          last = (ap (λ (a : Answered). a .reply) more, ap (λ (a : Answered). a .count) more);
+        }
+
+    pub refuses :
+        {kind value : ℕ} (k : Called) (m : ℕ)
+        → answerAt c at ≡ Record kind value
+        → k ≡ recorded e kind value s f
+        → (k .number ≡ 0 → ⊥)
+        → m ≡ refusalOf (length f₀) (length (e .half)) (length (e .full))
+        → m ≡ 0
+        → stopAt s (k .frame) n (k .number) reply count ≡ stopped (replayed e c s₀ f₀ n₀)
+    refuses k m h is z mis mz =
+        stops-after (g .going .before) (refused-here (g .going) k h is z ∙ let-in m mis mz) (g .last)
+
+    pub stops :
+        (x m : ℕ)
+        → passed (answerAt c at) ≡ 0
+        → x ≡ number (answerAt c at)
+        → m ≡ refusalOf (length f₀) (length (e .half)) (length (e .full))
+        → m ≡ 0
+        → stopAt s f n x reply count ≡ stopped (replayed e c s₀ f₀ n₀)
+    stops x m h is mis mz = stops-after (g .going .before) (stopped-here (g .going) x h is ∙ let-in m mis mz) (g .last)

@@ -69,6 +69,25 @@ replayed e capture s frame place =
     if eqb (refusalOf (length frame) (length (e .half)) (length (e .full))) 0 then obeyedAll e (contents capture) s frame place
     else halted s frame place (refusalOf (length frame) (length (e .half)) (length (e .full)))
 
--- where a replay by value stops
-abbrev pub stopsAt : Stop → List ℕ → Ending
-stopsAt r frame = endingAt (stateOf (r .panel)) frame (r .place) (r .number)
+-- the last of some answers; where there are none, the one given
+unfoldable pub lastOr : Answered → List Answered → Answered
+lastOr a [] = a
+lastOr a (b ∷ more) = lastOr b more
+
+-- no record was accepted: reply 0, count 0
+abbrev pub unanswered : Answered
+unanswered = answer 0 0 0
+
+-- what replay answers: where it stops, and the reply and count of the last accepted record
+pub record Stopped : Type 0 where
+  pub ending : Ending
+  pub reply : ℕ
+  pub count : ℕ
+
+abbrev pub stopped : Replayed → Stopped
+stopped r = record { ending = r .ending; reply = lastOr unanswered (r .answers) .reply; count = lastOr unanswered (r .answers) .count }
+
+-- what a replay by value leaves
+abbrev pub stopsAt : Stop → List ℕ → Stopped
+stopsAt r frame =
+    record { ending = endingAt (stateOf (r .panel)) frame (r .place) (r .number); reply = r .reply; count = r .count }

@@ -11,14 +11,19 @@ pub use telling::transcribe;
 pub use text::put_last;
 
 // Where a replay stopped: the panel then, how many records were accepted, and the refusal number, 0 at the end of the capture.
+// Beside it the reply and the count of the last record accepted, 0 and 0 where there was none.
 pub struct Stop {
     pub panel: Panel,
     pub place: usize,
     pub number: u8,
+    pub reply: u8,
+    pub count: usize,
 }
 
 // Where a replay that writes lines stopped, and how many bytes of text it left.
 pub struct Told {
-    pub stop: Stop,
+    pub panel: Panel,
+    pub place: usize,
+    pub number: u8,
     pub filled: usize,
 }

@@ -8,7 +8,7 @@ ghost use mathlib.Core.Path.{_≡_};
 ghost use Rattle.picture.specs.Picture.{seen};
 ghost use Rattle.lent.specs.State.{Valid};
 ghost use Rattle.panel.specs.Handed.{stateOf};
-ghost use Rattle.transcript.specs.Replay.{replayed, stopsAt};
+ghost use Rattle.transcript.specs.Replay.{replayed, stopped, stopsAt};
 
 // Replays a capture until the first refusal: the records before it stand, and it has no effect itself.
 pub fn replay(
@@ -20,7 +20,7 @@ pub fn replay(
     phase: bool,
 ) -> Stop
     requires { ⌜ Valid (stateOf panel) ⌝ }
-    ensures { λ r. ⌜ stopsAt r (now (frame .exit)) ≡ replayed (seen half full phase) (now (capture .entry)) (stateOf panel) (now (frame .entry)) 0 .ending ⌝ }
+    ensures { λ r. ⌜ stopsAt r (now (frame .exit)) ≡ stopped (replayed (seen half full phase) (now (capture .entry)) (stateOf panel) (now (frame .entry)) 0) ⌝ }
     ensures valid { λ r. ⌜ Valid (stateOf (r .panel)) ⌝ }
 {
     let number = refusal(frame.len(), half.len(), full.len());
@@ -29,10 +29,14 @@ pub fn replay(
             panel,
             place: 0,
             number,
+            reply: 0,
+            count: 0,
         };
     }
     let mut next = panel;
     let mut place: usize = 0;
+    let mut reply: u8 = 0;
+    let mut count: usize = 0;
     let mut at: usize = 0;
     let stop = loop {
         let answer = capture::record_at(capture, at);
@@ -41,6 +45,8 @@ pub fn replay(
                 panel: next,
                 place,
                 number: answer.number(),
+                reply,
+                count,
             };
         };
         let outcome = obey(next, kind, value, frame, half, full, phase);
@@ -50,9 +56,13 @@ pub fn replay(
                 panel: next,
                 place,
                 number,
+                reply,
+                count,
             };
         }
         next = outcome.panel;
+        reply = outcome.reply;
+        count = outcome.count;
         place += 1;
         at += 4;
     };

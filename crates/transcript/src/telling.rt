@@ -1,5 +1,4 @@
 // The replay of a capture that writes a line for each accepted record.
-use crate::Stop;
 use crate::Told;
 use crate::records::obey;
 use crate::text::put_line;
@@ -12,7 +11,7 @@ ghost use lib.ListN.{length};
 ghost use Rattle.picture.specs.Picture.{seen};
 ghost use Rattle.lent.specs.State.{Valid};
 ghost use Rattle.panel.specs.Handed.{stateOf};
-ghost use Rattle.transcript.specs.Replay.{replayed, stopsAt};
+ghost use Rattle.transcript.specs.Replay.{replayed, endingAt};
 ghost use Rattle.transcript.specs.Text.{Told as ToldOf, roomFor};
 
 // Replays a capture into a buffer that has room for all its lines; records are numbered from a place on.
@@ -27,17 +26,15 @@ fn tell(
     text: &mut [u8],
 ) -> Told
     requires { ⌜ Valid (stateOf panel) × (place + length (now capture) < 2 ^ 64) × (12 * length (now capture) ≤ length (now text)) ⌝ }
-    ensures { λ r. ⌜ ToldOf (replayed (seen half full phase) (now (capture .entry)) (stateOf panel) (now (frame .entry)) place) place (now (text .entry)) (stopsAt (r .stop) (now (frame .exit))) (now (text .exit)) (r .filled) ⌝ }
-    ensures valid { λ r. ⌜ Valid (stateOf (r .stop .panel)) ⌝ }
+    ensures { λ r. ⌜ ToldOf (replayed (seen half full phase) (now (capture .entry)) (stateOf panel) (now (frame .entry)) place) place (now (text .entry)) (endingAt (stateOf (r .panel)) (now (frame .exit)) (r .place) (r .number)) (now (text .exit)) (r .filled) ⌝ }
+    ensures valid { λ r. ⌜ Valid (stateOf (r .panel)) ⌝ }
 {
     let number = refusal(frame.len(), half.len(), full.len());
     if number != 0 {
         return Told {
-            stop: Stop {
-                panel,
-                place,
-                number,
-            },
+            panel,
+            place,
+            number,
             filled: 0,
         };
     }
@@ -49,11 +46,9 @@ fn tell(
         let answer = capture::record_at(capture, at);
         let Answer::Record { kind, value } = answer else {
             break Told {
-                stop: Stop {
-                    panel: next,
-                    place: reached,
-                    number: answer.number(),
-                },
+                panel: next,
+                place: reached,
+                number: answer.number(),
                 filled,
             };
         };
@@ -61,11 +56,9 @@ fn tell(
         let number = outcome.number;
         if number != 0 {
             break Told {
-                stop: Stop {
-                    panel: next,
-                    place: reached,
-                    number,
-                },
+                panel: next,
+                place: reached,
+                number,
                 filled,
             };
         }
@@ -90,8 +83,8 @@ pub fn transcribe(
     text: &mut [u8],
 ) -> Told
     requires { ⌜ Valid (stateOf panel) × (place + length (now capture) < 2 ^ 64) ⌝ }
-    ensures { λ r. ⌜ ToldOf (replayed (seen half full phase) (roomFor (now (text .entry)) (now (capture .entry))) (stateOf panel) (now (frame .entry)) place) place (now (text .entry)) (stopsAt (r .stop) (now (frame .exit))) (now (text .exit)) (r .filled) ⌝ }
-    ensures valid { λ r. ⌜ Valid (stateOf (r .stop .panel)) ⌝ }
+    ensures { λ r. ⌜ ToldOf (replayed (seen half full phase) (roomFor (now (text .entry)) (now (capture .entry))) (stateOf panel) (now (frame .entry)) place) place (now (text .entry)) (endingAt (stateOf (r .panel)) (now (frame .exit)) (r .place) (r .number)) (now (text .exit)) (r .filled) ⌝ }
+    ensures valid { λ r. ⌜ Valid (stateOf (r .panel)) ⌝ }
 {
     let room = text.len() / 48 * 4;
     if capture.len() <= room {

@@ -1,8 +1,8 @@
 -- The parts that the callees give.
 use borrow.Author.Needs.{needs}
 use Rattle.boundary.specs.Packed.{unpacked}
-use Rattle.boundary.proofs.unpack.Statement.{statement}
-use Rattle.boundary.proofs.unpack.Tie as tie
+use Rattle.boundary.proofs.unpacking.unpack.Statement.{statement}
+use Rattle.boundary.proofs.unpacking.unpack.Tie as tie
 
 pub unpack-spec : {M : Type 1} → statement M
 unfolding unpacked

@@ -1,8 +1,8 @@
 -- The parts that the callees give.
 use borrow.Author.Needs.{needs}
 use Rattle.boundary.specs.Packed.{placeOf}
-use Rattle.boundary.proofs.place.Statement.{statement}
-use Rattle.boundary.proofs.place.Tie as tie
+use Rattle.boundary.proofs.unpacking.place.Statement.{statement}
+use Rattle.boundary.proofs.unpacking.place.Tie as tie
 
 pub place-spec : {M : Type 1} → statement M
 unfolding placeOf

@@ -2,8 +2,8 @@
 use borrow.Author.Needs.{needs}
 use mathlib.Core.Path.{refl}
 use Rattle.boundary.specs.Packed.{viewOf}
-use Rattle.boundary.proofs.view.Statement.{statement}
-use Rattle.boundary.proofs.view.Tie as tie
+use Rattle.boundary.proofs.unpacking.view.Statement.{statement}
+use Rattle.boundary.proofs.unpacking.view.Tie as tie
 
 pub view-spec : {M : Type 1} → statement M
 unfolding viewOf

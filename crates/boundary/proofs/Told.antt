@@ -1,0 +1,29 @@
+-- What a fresh panel, its replay and the two writers give, put together.
+use Prim.Native.Nat.{ℕ}
+use mathlib.Core.Bool.{Bool}
+use mathlib.Core.List.{List}
+use mathlib.Core.Logic.{_≢_}
+use mathlib.Core.Path.{_≡_}
+use lib.ListN.{length}
+use borrow.Author.Tests.{eq-eqb, ne-eqb}
+use Rattle.picture.specs.Picture.{Seen}
+use Rattle.picture.specs.Refusals.{refusalOf}
+use Rattle.lent.specs.State.{State, freshState}
+use Rattle.transcript.specs.Replay.{Stopped, stopped, replayed}
+use Rattle.boundary.specs.Report.{stateBytes, lastBytes, report, freshReplay}
+
+module _ (parallel : Bool) (e : Seen) (capture frame state₀ last₀ : List ℕ) (n : ℕ) (is : n ≡ refusalOf (length frame) (length (e .half)) (length (e .full))) where
+  pub turned-away : n ≢ 0 → report n frame state₀ last₀ ≡ freshReplay parallel e capture frame state₀ last₀
+  unfolding freshReplay
+  turned-away h = rw (← is, ne-eqb n 0 h)
+
+  pub told :
+      {p : State} {s : Stopped} {state last : List ℕ}
+      → n ≡ 0
+      → p ≡ freshState parallel
+      → s ≡ stopped (replayed e capture p frame 0)
+      → state ≡ stateBytes (s .ending .state)
+      → last ≡ lastBytes (s .ending .place) (s .reply) (s .count)
+      → report (s .ending .number) (s .ending .frame) state last ≡ freshReplay parallel e capture frame state₀ last₀
+  unfolding freshReplay
+  told z h stop state-is last-is = rw (← is, eq-eqb n 0 z, state-is, last-is, stop, h)

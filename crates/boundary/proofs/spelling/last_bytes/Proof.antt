@@ -1,0 +1,23 @@
+-- By computation.
+use borrow.Author.Needs.{needs}
+use mathlib.Core.Path.{refl}
+use Rattle.boundary.specs.Report.{lastBytes}
+use Rattle.boundary.proofs.spelling.last_bytes.Statement.{statement}
+use Rattle.boundary.proofs.spelling.last_bytes.Tie as tie
+
+pub last-bytes-spec : {M : Type 1} → statement M
+unfolding lastBytes
+last-bytes-spec =
+    tie.close
+    (tie.spec
+    (λ c. search needs)
+    (λ c. search needs)
+    (λ c. search needs)
+    (λ c. search needs)
+    (λ c. search needs)
+    (λ c. search needs)
+    (λ c. search needs)
+    (λ c. search needs)
+    (λ c. search needs)
+    (λ c. search needs)
+    (λ c. refl))
