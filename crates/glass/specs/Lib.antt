@@ -1,0 +1,4 @@
+pub mod Dots
+pub mod Braille
+pub mod Plain
+pub mod Pbm
