@@ -54,17 +54,17 @@ moved id p =
 abbrev pub completes : Place → Bool
 completes p = isText (p .target) && p .low
 
--- and S = 1
+-- a text word completes, and S = 1
 abbrev pub shifts : Control → Bool
 shifts c = completes (c .place) && c .entry .s
 
--- then the display shifts left (I/D = 1) or right
+-- a write, or a read that is no dummy, moves on; when a text word completes with S = 1, the display shifts left (I/D = 1) or right
 unfoldable pub movedOn : Control → Control
 movedOn c =
     withView (if shifts c then displayMoved (not (c .entry .id)) (c .view) else c .view)
     (withPlace (moved (c .entry .id) (c .place)) c)
 
--- the mark is cleared, and nothing moves; a data transfer drops the waiting row
+-- a dummy read: the mark is cleared, and nothing moves; like every data transfer it drops the waiting row
 abbrev pub dummyRead : Control → Control
 dummyRead c =
     withPlace

@@ -36,12 +36,14 @@ freshMemories = record { text = replicate 128 0x20; glyph = replicate 128 0; gra
 abbrev pub memories : List ℕ → List ℕ → List ℕ → Memories
 memories t g h = record { text = t; glyph = g; graphic = h }
 
--- three lent memories, as a contract names them: what they held at entry, and what they hold at exit
+-- a lent memory, frame or font, as a contract names it: what it held at entry, and what it holds at exit
 abbrev pub Lent : Type 0
 Lent = Both (RefT (List ℕ)) (RefT (List ℕ))
 
+-- the three memories at entry
 abbrev pub before : Lent → Lent → Lent → Memories
 before t g h = memories (now (t .entry)) (now (g .entry)) (now (h .entry))
 
+-- and at exit
 abbrev pub after : Lent → Lent → Lent → Memories
 after t g h = memories (now (t .exit)) (now (g .exit)) (now (h .exit))

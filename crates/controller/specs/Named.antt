@@ -25,6 +25,7 @@ use Rattle.controller.specs.Glass.{shownRow, shownWord, wordImage, isIma
 abbrev pub counterCell : Place → Cell
 counterCell p = if isText (p .target) then Word (p .counter) else Nowhere
 
+-- the counter's cell before and after, each where target is text
 abbrev pub bothCells : Place → Place → Region
 bothCells before after = Cells (counterCell before) (counterCell after)
 

@@ -39,7 +39,7 @@ other-number e s frame otherLink = refl
 other-number e s frame (taken x) = refl
 
 module _ (e : Seen) (s : State) (frame : List ℕ) (call : Call) where
-  call-number :
+  pub call-number :
       called e s frame call .number
       ≡ orOther (ofOtherLink (s .link) call) (refusalOf (length frame) (length (e .half)) (length (e .full)))
   unfolding called

@@ -12,7 +12,7 @@ demand-1 =
       sends = send-refuses;
       captures = record-says;
       replays = replay-stops;
-      callsOnce = table-once;
-      sendsOnce = send-once;
-      capturesOnce = record-once;
+      oneNumberForCalls = table-once;
+      oneNumberForSends = send-once;
+      oneAnswerForRecords = record-once;
     }

@@ -19,7 +19,7 @@ use Rattle.picture.proofs.Accepted as sizes
 use Rattle.repaint.specs.Repaint.{named, repainted, countNamed}
 use Rattle.lent.specs.State.{State, Valid}
 use Rattle.lent.specs.Calls.{Call, Taken, otherLink, taken, takenBy, unlessOther, called, after}
-use Rattle.lent.proofs.Kept.{called-valid}
+use Rattle.lent.proofs.Kept.{fresh-state-valid, called-valid}
 use Rattle.sequences.specs.Wires.{Fits}
 use Rattle.sequences.proofs.Repainted.{TakenKept, taken-unnamed}
 use Rattle.sequences.proofs.Bounded.{called-count}
@@ -129,5 +129,6 @@ demand-3 =
       shown = named-bytes-shown;
       counts = count-is-number;
       bounded = called-count;
+      begins = fresh-state-valid;
       valid = after-valid;
     }

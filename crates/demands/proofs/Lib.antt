@@ -2,6 +2,7 @@ pub mod Tables
 pub mod Calls
 pub mod Replays
 pub mod Demand1
+pub mod Replies
 pub mod Demand2
 pub mod Demand3
 pub mod Readings

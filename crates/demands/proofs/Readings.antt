@@ -22,7 +22,7 @@ use Rattle.picture.specs.Picture.{Seen}
 use Rattle.picture.specs.Refusals.{refusalOf}
 use Rattle.repaint.specs.Repaint.{named, countNamed}
 use Rattle.lent.specs.State.{State, state, freshState}
-use Rattle.lent.specs.Steps.{carriedOut, transferStep, bitStep}
+use Rattle.steps.specs.Steps.{carriedOut, transferStep, bitStep}
 use Rattle.lent.specs.Calls.{Call, Taken, otherLink, taken, takenBy, Called, unlessOther, called, after}
 use Rattle.sequences.specs.Wires.{Fits, answers}
 use Rattle.transcript.proofs.Refused.{called-length}

@@ -3,7 +3,7 @@ use Prim.Native.Nat.{ℕ, _≤_, _%_}
 use mathlib.Core.Bool.{Bool, true, false, not, _||_, true≢false}
 use mathlib.Core.List.{List}
 use mathlib.Core.Logic.{_≢_}
-use mathlib.Core.Path.{_≡_, refl, sym, subst, _∙_}
+use mathlib.Core.Path.{_≡_, refl, sym, subst, _∙_, ap}
 use native.Mathlib.Omega.{arith}
 use lib.ListN.{length, getD}
 use lib.Dec.{eqb, ltb, leb}
@@ -16,7 +16,7 @@ use Rattle.picture.specs.Picture.{Seen}
 use Rattle.picture.specs.Refusals.{refusalOf}
 use Rattle.capture.specs.declared.Answer.{Answer}
 use Rattle.capture.specs.Record as records
-use Rattle.demands.specs.Demand1.{GoodFullFont, TableSays, frameLength, halfFontLength, fullFontLength, otherLink, accepted, OneNumber}
+use Rattle.demands.specs.Demand1.{GoodFullFont, TableSays, frameLength, halfFontLength, fullFontLength, otherLink, accepted, OneNumber, OneAnswer}
 use Rattle.demands.specs.Demand1 as demands
 use Rattle.demands.specs.Demand1.{SenderSays, SendRefuses, Marked, Allowed, RecordSays}
 
@@ -109,9 +109,9 @@ module _ (c : List ℕ) where
       (eqb-true (getD c 0 0) 0xA5 (q .0), eqb-true (getD c 1 0) 0x5A (q .1))
 
   abbrev Answers : Answer → Type 0
-  Answers a = RecordSays c (records.number a)
+  Answers a = RecordSays c a (records.number a)
 
-  pub record-says : RecordSays c (records.number (records.answer c))
+  pub record-says : Answers (records.answer c)
   unfolding records.answer
   record-says =
       either-told Answers (eqb (length c) 0) (λ t. demands.end (eqb-true (length c) 0 t))
@@ -130,34 +130,44 @@ module _ (c : List ℕ) where
       (λ f. demands.good four m k
       (allowed-is (records.kindOf c) (records.valueOf c) (not-false (records.allowed (records.kindOf c) (records.valueOf c)) f)))))))
 
-  record-number : (n : ℕ) → RecordSays c n → n ≡ records.number (records.answer c)
+  record-answer : (a : Answer) (n : ℕ) → RecordSays c a n → a ≡ records.answer c
   unfolding records.answer
-  record-number n (demands.remain a b) = rw (ne-eqb (length c) 0 (λ z. omega arith), le-leb (length c) 3 b)
-  record-number n (demands.mark a g) =
+  record-answer a n (demands.remain l b) = rw (ne-eqb (length c) 0 (λ z. omega arith), le-leb (length c) 3 b)
+  record-answer a n (demands.mark l g) =
       rw (
         ne-eqb (length c) 0 (λ z. omega arith),
-        lt-leb (length c) 3 a,
+        lt-leb (length c) 3 l,
         never (records.marked (getD c 0 0) (getD c 1 0)) (λ t. g (marked-is t)),
       )
-  record-number n (demands.kind a m k) =
-      rw (ne-eqb (length c) 0 (λ z. omega arith), lt-leb (length c) 3 a, is-marked m, lt-leb (records.kindOf c) 6 k)
-  record-number n (demands.value a m k g) =
+  record-answer a n (demands.kind l m k) =
+      rw (ne-eqb (length c) 0 (λ z. omega arith), lt-leb (length c) 3 l, is-marked m, lt-leb (records.kindOf c) 6 k)
+  record-answer a n (demands.value l m k g) =
       rw (
         ne-eqb (length c) 0 (λ z. omega arith),
-        lt-leb (length c) 3 a,
+        lt-leb (length c) 3 l,
         is-marked m,
         le-leb (records.kindOf c) 6 k,
         never (records.allowed (records.kindOf c) (records.valueOf c)) (λ t. g (allowed-is (records.kindOf c) (records.valueOf c) t)),
       )
-  record-number n (demands.end z) = rw (eq-eqb (length c) 0 z)
-  record-number n (demands.good a m k v) =
+  record-answer a n (demands.end z) = rw (eq-eqb (length c) 0 z)
+  record-answer a n (demands.good l m k v) =
       rw (
         ne-eqb (length c) 0 (λ z. omega arith),
-        lt-leb (length c) 3 a,
+        lt-leb (length c) 3 l,
         is-marked m,
         le-leb (records.kindOf c) 6 k,
         is-allowed (records.kindOf c) (records.valueOf c) v,
       )
 
-  pub record-once : OneNumber (RecordSays c)
-  record-once m n x y = record-number m x ∙ sym (record-number n y)
+  record-number : (a : Answer) (n : ℕ) → RecordSays c a n → n ≡ records.number a
+  record-number a n (demands.remain l b) = refl
+  record-number a n (demands.mark l g) = refl
+  record-number a n (demands.kind l m k) = refl
+  record-number a n (demands.value l m k g) = refl
+  record-number a n (demands.end z) = refl
+  record-number a n (demands.good l m k v) = refl
+
+  pub record-once : OneAnswer (RecordSays c)
+  record-once a b m n x y =
+      let same = record-answer a m x ∙ sym (record-answer b n y) in
+      (same, record-number a m x ∙ ap records.number same ∙ sym (record-number b n y))

@@ -1,26 +1,25 @@
 -- One law: what a call leaves gives its outcome back, so two outcomes that leave the same are one.
 use mathlib.Core.Path.{_≡_, refl, ap, sym, _∙_}
-use Rattle.demands.specs.Tight.{Contract, Tight, PublicCall, contractOf, fresh, call, draw, lentCall, send, read, recordAt, answerNumber, readerRead, readerMoved}
+use Rattle.lent.specs.State.{State}
+use Rattle.panel.specs.declared.Panel.{Panel}
+use Rattle.demands.specs.Tight.{Contract, Tight, PublicCall, contractOf, fresh, call, draw, lentCall, send, read, recordAt, answerNumber, readerOver, readerRead, readerMoved}
+use Rattle.demands.specs.Tight.{replay, exportedDraw, exportedSend, exportedReplay, braille, plain, pbm}
+
+-- the panel of a state
+abbrev panelOf : State → Panel
+panelOf s =
+    record { text = s .memories .text; glyph = s .memories .glyph; graphic = s .memories .graphic; control = s .control; link = s .link }
 
 tight-by : (k : Contract) (back : k .Left → k .Outcome) → ((x : k .Outcome) → back (k .leaves x) ≡ x) → Tight k
 tight-by k back gives i x y p q = sym (gives x) ∙ ap back (p ∙ sym q) ∙ gives y
 
 pub tight : (p : PublicCall) → Tight (contractOf p)
-tight fresh =
-    tight-by (contractOf fresh)
-    (λ s. record { text = s .memories .text; glyph = s .memories .glyph; graphic = s .memories .graphic; control = s .control; link = s .link })
-    (λ x. refl)
+tight fresh = tight-by (contractOf fresh) panelOf (λ x. refl)
 tight call =
     tight-by (contractOf call)
     (λ k. record {
       result = record {
-        panel = record {
-          text = k .state .memories .text;
-          glyph = k .state .memories .glyph;
-          graphic = k .state .memories .graphic;
-          control = k .state .control;
-          link = k .state .link;
-        };
+        panel = panelOf (k .state);
         number = k .number;
         reply = k .reply;
         count = k .count;
@@ -41,5 +40,25 @@ tight send = tight-by (contractOf send) (λ d. record { result = d .number; buff
 tight read = tight-by (contractOf read) (λ x. x) (λ x. refl)
 tight recordAt = tight-by (contractOf recordAt) (λ x. x) (λ x. refl)
 tight answerNumber = tight-by (contractOf answerNumber) (λ x. x) (λ x. refl)
+tight readerOver = tight-by (contractOf readerOver) (λ x. x) (λ x. refl)
 tight readerRead = tight-by (contractOf readerRead) (λ x. x) (λ x. refl)
 tight readerMoved = tight-by (contractOf readerMoved) (λ x. x) (λ x. refl)
+tight replay =
+    tight-by (contractOf replay)
+    (λ k. record {
+      result = record {
+        panel = panelOf (k .ending .state);
+        place = k .ending .place;
+        number = k .ending .number;
+        reply = k .reply;
+        count = k .count;
+      };
+      buffer = k .ending .frame;
+    })
+    (λ x. refl)
+tight exportedDraw = tight-by (contractOf exportedDraw) (λ d. record { result = d .number; buffer = d .frame }) (λ x. refl)
+tight exportedSend = tight-by (contractOf exportedSend) (λ d. record { result = d .number; buffer = d .buffer }) (λ x. refl)
+tight exportedReplay = tight-by (contractOf exportedReplay) (λ x. x) (λ x. refl)
+tight braille = tight-by (contractOf braille) (λ x. x) (λ x. refl)
+tight plain = tight-by (contractOf plain) (λ x. x) (λ x. refl)
+tight pbm = tight-by (contractOf pbm) (λ x. x) (λ x. refl)

@@ -3,10 +3,10 @@
 -- Proved in proofs/, as `demand-1`.
 use Prim.Native.Nat.{ℕ, _≤_, _<_, _%_}
 use mathlib.Core.Bool.{Bool, true, false}
-use mathlib.Core.List.{List}
+use mathlib.Core.List.{List, [], _∷_}
 use mathlib.Core.Logic.{_≢_}
 use mathlib.Core.Path.{_≡_}
-use lib.ListN.{length, take, getD}
+use lib.ListN.{length, take, drop, replicate, getD}
 use Rattle.controller.specs.declared.Control.{Control}
 use Rattle.controller.specs.Memories.{Memories}
 use Rattle.links.specs.declared.Link.{Link}
@@ -16,12 +16,15 @@ use Rattle.picture.specs.Picture.{Seen}
 use Rattle.picture.specs.Refusals.{drawn, leaves}
 use Rattle.lent.specs.State.{State}
 use Rattle.lent.specs.Calls.{Call, transfer, bit, selectLow, reset, called, refused, after}
-use Rattle.capture.specs.Record as records
-use Rattle.capture.specs.Capture.{contents}
+use Rattle.sequences.specs.Wires.{numbersOf}
+use Rattle.capture.specs.declared.Answer.{Answer}
+use Rattle.capture.specs.declared.Answer.the-variants.{Record, Short, WrongMark, WrongKind, WrongValue, End}
+use Rattle.capture.specs.Record.{kindOf, valueOf, answer, number}
+use Rattle.capture.specs.Capture.{Recorded, contents}
 use Rattle.transcript.specs.Replay.{Replayed, replayed}
-use Rattle.demands.specs.Captures.{callsOfAll}
+use Rattle.demands.specs.Captures.{callsOf, callsOfAll}
 
--- frame and fonts as document 01 wants them
+-- frame and fonts as document 01 wants them: what refusals 1, 2 and 3 find missing
 abbrev pub GoodFrame : List ℕ → Type 0
 GoodFrame frame = length frame ≡ 1024
 
@@ -49,6 +52,11 @@ ofOtherLink (Parallel pairing) selectLow = true
 ofOtherLink (Serial receiver) selectLow = false
 ofOtherLink (Parallel pairing) (reset parallel) = false
 ofOtherLink (Serial receiver) (reset parallel) = false
+
+-- of the calls of a record the first decides
+abbrev pub firstOfOtherLink : Link → List Call → Bool
+firstOfOtherLink link [] = false
+firstOfOtherLink link (call ∷ calls) = ofOtherLink link call
 
 -- a transfer, bit, select-low or reset: its number is the table's, and a refused one leaves state and frame, with reply 0 and count 0
 pub record CallRefuses (e : Seen) (s : State) (frame : List ℕ) (call : Call) : Type 0 where
@@ -79,24 +87,51 @@ pub record Allowed (kind value : ℕ) : Type 0 where
   pub selectLow : kind ≡ 5 → value ≡ 0
   pub reset : kind ≡ 6 → value ≤ 1
 
--- the record at the beginning of a capture: 6 to 9 in their order; 0 for the end, and for a record
-pub data RecordSays (c : List ℕ) : ℕ → Type 0 where
-  remain : 1 ≤ length c → length c ≤ 3 → RecordSays c 6
-  mark : 4 ≤ length c → (Marked c → ⊥) → RecordSays c 7
-  kind : 4 ≤ length c → Marked c → 6 < records.kindOf c → RecordSays c 8
-  value : 4 ≤ length c → Marked c → records.kindOf c ≤ 6 → (Allowed (records.kindOf c) (records.valueOf c) → ⊥) → RecordSays c 9
-  end : length c ≡ 0 → RecordSays c 0
-  good : 4 ≤ length c → Marked c → records.kindOf c ≤ 6 → Allowed (records.kindOf c) (records.valueOf c) → RecordSays c 0
+-- what stands at the beginning of a capture, with its number: 6 to 9 in their order; 0 for the end, and for a record
+pub data RecordSays (c : List ℕ) : Answer → ℕ → Type 0 where
+  remain : 1 ≤ length c → length c ≤ 3 → RecordSays c Short 6
+  mark : 4 ≤ length c → (Marked c → ⊥) → RecordSays c WrongMark 7
+  kind : 4 ≤ length c → Marked c → 6 < kindOf c → RecordSays c WrongKind 8
+  value : 4 ≤ length c → Marked c → kindOf c ≤ 6 → (Allowed (kindOf c) (valueOf c) → ⊥) → RecordSays c WrongValue 9
+  end : length c ≡ 0 → RecordSays c End 0
+  good : 4 ≤ length c → Marked c → kindOf c ≤ 6 → Allowed (kindOf c) (valueOf c) → RecordSays c (Record (kindOf c) (valueOf c)) 0
 
 -- "when, and only then": a table gives one number alone
 abbrev pub OneNumber : (ℕ → Type 0) → Type 0
 OneNumber Says = (m n : ℕ) → Says m → Says n → m ≡ n
 
+-- and one answer
+abbrev pub OneAnswer : (Answer → ℕ → Type 0) → Type 0
+OneAnswer Says = (a b : Answer) (m n : ℕ) → Says a m → Says b n → (a ≡ b) × (m ≡ n)
+
+-- where a replay stops after so many records, in a state with this link: at what stands behind the last one, with its number; or at a
+-- record of the other link, with 5
+pub data StopsAt (rs : List Recorded) (behind place number : ℕ) (link : Link) : Type 0 where
+  behindAll : place ≡ length rs → number ≡ behind → StopsAt rs behind place number link
+  atRecord : (r : Recorded) (more : List Recorded)
+      → drop place rs ≡ r ∷ more
+      → firstOfOtherLink link (callsOf (r .kind) (r .value)) ≡ true
+      → number ≡ 5
+      → StopsAt rs behind place number link
+
 -- a replay: the records before the one at which it stops stand, and that one has no effect
 pub record ReplayStops (e : Seen) (capture : List ℕ) (s : State) (frame : List ℕ) (r : Replayed) : Type 0 where
   -- refused as a call before anything is read: nothing changes
-  pub refused : (n : ℕ) → TableSays e frame false n → n ≢ 0 → (r .ending .number ≡ n) × (r .ending .state ≡ s) × (r .ending .frame ≡ frame)
-  -- else the state and the frame are what the calls of the accepted records leave, and the place says how many these are
+  pub refused :
+      (n : ℕ)
+      → TableSays e frame false n
+      → n ≢ 0
+      → (r .ending .number ≡ n) × (r .ending .place ≡ 0) × (r .ending .state ≡ s) × (r .ending .frame ≡ frame)
+  -- else it stops at the first record that is refused, or behind the last
+  pub stops :
+      TableSays e frame false 0
+      → StopsAt (contents capture .records) (number (contents capture .stop)) (r .ending .place) (r .ending .number) (r .ending .state .link)
+  -- every call of the records before that place is accepted
+  pub accepted :
+      TableSays e frame false 0
+      → let calls : List Call = callsOfAll (take (r .ending .place) (contents capture .records)) in
+      numbersOf e s frame calls ≡ replicate (length calls) 0
+  -- and the state and the frame are what these calls leave
   pub stands :
       TableSays e frame false 0
       → record { state = r .ending .state; frame = r .ending .frame }
@@ -106,8 +141,8 @@ pub record Demand1 : Type 0 where
   pub calls : (e : Seen) (s : State) (frame : List ℕ) (call : Call) → CallRefuses e s frame call
   pub draws : (e : Seen) (m : Memories) (c : Control) (frame : List ℕ) → DrawRefuses e m c frame
   pub sends : (register : Bool) (byte : ℕ) (buffer : List ℕ) → SendRefuses register byte buffer
-  pub captures : (c : List ℕ) → RecordSays c (records.number (records.answer c))
+  pub captures : (c : List ℕ) → RecordSays c (answer c) (number (answer c))
   pub replays : (e : Seen) (capture : List ℕ) (s : State) (frame : List ℕ) → ReplayStops e capture s frame (replayed e capture s frame 0)
-  pub callsOnce : (e : Seen) (frame : List ℕ) (other : Bool) → OneNumber (TableSays e frame other)
-  pub sendsOnce : (buffer : List ℕ) → OneNumber (SenderSays buffer)
-  pub capturesOnce : (c : List ℕ) → OneNumber (RecordSays c)
+  pub oneNumberForCalls : (e : Seen) (frame : List ℕ) (other : Bool) → OneNumber (TableSays e frame other)
+  pub oneNumberForSends : (buffer : List ℕ) → OneNumber (SenderSays buffer)
+  pub oneAnswerForRecords : (c : List ℕ) → OneAnswer (RecordSays c)

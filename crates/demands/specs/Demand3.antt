@@ -13,7 +13,7 @@ use Rattle.base.specs.Painting.{count}
 use Rattle.links.specs.declared.Transfer.{Transfer}
 use Rattle.picture.specs.Picture.{Seen, picture}
 use Rattle.repaint.specs.Repaint.{named}
-use Rattle.lent.specs.State.{State, Valid}
+use Rattle.lent.specs.State.{State, freshState, Valid}
 use Rattle.lent.specs.Calls.{Call, Taken, otherLink, taken, takenBy, called, after}
 use Rattle.sequences.specs.Carried.{carries, whole, isData}
 use Rattle.sequences.specs.Wires.{Fits}
@@ -69,7 +69,10 @@ AtMost64 =
     → s .control .entry .s ≡ false
     → called e s frame call .count ≤ 64
 
--- and so it goes on, since every call hands on a valid state
+-- a fresh panel is valid, and every call hands on a valid state
+abbrev pub FreshIsValid : Type 0
+FreshIsValid = (parallel : Bool) → Valid (freshState parallel)
+
 abbrev pub StaysValid : Type 0
 StaysValid = (e : Seen) (s : State) (frame : List ℕ) (calls : List Call) → Valid s → Valid (after e s frame calls .state)
 
@@ -78,4 +81,5 @@ pub record Demand3 : Type 0 where
   pub shown : NamedBytesShown
   pub counts : CountIsNumber
   pub bounded : AtMost64
+  pub begins : FreshIsValid
   pub valid : StaysValid

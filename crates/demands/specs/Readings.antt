@@ -69,8 +69,8 @@ table =
     ∷ row 2 (instruct 0x85 ∷ status ∷ []) (replies (0 ∷ 0x05 ∷ []) ∷ [])
     ∷ row 3 (instruct 0x80 ∷ write 0x2D ∷ write 0x37 ∷ status ∷ [])
     (textWord 0 0x2D37 ∷ replies (0 ∷ 0 ∷ 0 ∷ 0x01 ∷ []) ∷ counts (32 ∷ 32 ∷ 64 ∷ 0 ∷ []) ∷ [])
-    ∷ row 4 (instruct 0x80 ∷ write 0x2D ∷ write 0x37 ∷ instruct 0x80 ∷ read ∷ read ∷ read ∷ [])
-    (replies (0 ∷ 0 ∷ 0 ∷ 0 ∷ 0x00 ∷ 0x2D ∷ 0x37 ∷ []) ∷ [])
+    ∷ row 4 (instruct 0x80 ∷ write 0x2D ∷ write 0x37 ∷ status ∷ instruct 0x80 ∷ read ∷ read ∷ read ∷ [])
+    (replies (0 ∷ 0 ∷ 0 ∷ 0x01 ∷ 0 ∷ 0x00 ∷ 0x2D ∷ 0x37 ∷ []) ∷ [])
     ∷ row 5 (instruct 0xBF ∷ write 0x2D ∷ write 0x37 ∷ status ∷ [])
     (replies (0 ∷ 0 ∷ 0 ∷ 0x00 ∷ []) ∷ counts (32 ∷ 0 ∷ 32 ∷ 0 ∷ []) ∷ [])
     ∷ row 6 (instruct 0x04 ∷ instruct 0x80 ∷ write 0x2D ∷ write 0x37 ∷ status ∷ []) (replies (0 ∷ 0 ∷ 0 ∷ 0 ∷ 0x3F ∷ []) ∷ [])
@@ -85,7 +85,7 @@ table =
     ∷ serialRow 12 (bytes (0xFA ∷ 0x20 ∷ 0xD1 ∷ [])) (nothingStored ∷ [])
     ∷ []
 
--- a zero half font, an empty full font, phase 0 and a zero frame
+-- seen with a zero half font, an empty full font and phase 0; each row's frame is zero too
 abbrev pub zeroFonts : Seen
 zeroFonts = record { half = replicate 2048 0; full = []; phase = false }
 

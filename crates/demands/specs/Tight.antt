@@ -1,10 +1,11 @@
 -- Document 01, "How tight the contracts are": for each input a contract settles the reply, count, refusal number, next state and all
--- lent buffers, so that any two outcomes that it admits are equal. `tight` in proofs/ proves `Tight` of every public call.
--- `leaves` and `means` are the two sides of the call's own `ensures`, word for word.
+-- lent buffers, so that any two outcomes that it admits are equal. `tight` in proofs/ proves `Tight` of every public call but those
+-- that hand out a new reference, which docs/CONTRACTS.md lists. `leaves` and `means` are the two sides of the call's own `ensures`.
 use Prim.Native.Nat.{ℕ}
 use mathlib.Core.Bool.{Bool}
 use mathlib.Core.List.{List}
 use mathlib.Core.Path.{_≡_}
+use denote.Ref.{RefT}
 use Rattle.controller.specs.Memories.{Memories}
 use Rattle.links.specs.Sender as sender
 use Rattle.links.specs.Sender.{Sent, sent}
@@ -22,6 +23,13 @@ use Rattle.capture.specs.declared.Reader.{Reader}
 use Rattle.capture.specs.Record.{answer, number}
 use Rattle.capture.specs.Capture.{answerAt}
 use Rattle.capture.specs.Reader as reader
+use Rattle.transcript.specs.declared.Stop.{Stop}
+use Rattle.transcript.specs.Replay.{Stopped, stopped, stopsAt, replayed}
+use Rattle.boundary.specs.Packed.{unpacked}
+use Rattle.boundary.specs.Report.{Report, report, freshReplay}
+use Rattle.glass.specs.Braille as brailleOf
+use Rattle.glass.specs.Plain as plainOf
+use Rattle.glass.specs.Pbm as pbmOf
 
 pub record Contract : Type 1 where
   pub Input : Type 0
@@ -46,7 +54,7 @@ pub record Given (S : Type 0) : Type 0 where
   pub call : Call
 
 -- what `draw` is given
-pub record Shown (S : Type 0) : Type 0 where
+pub record Drawing (S : Type 0) : Type 0 where
   pub seen : Seen
   pub state : S
   pub frame : List ℕ
@@ -68,6 +76,29 @@ pub record At (C : Type 0) : Type 0 where
   pub capture : C
   pub at : ℕ
 
+-- what `replay` is given, on a panel or on a fresh one
+pub record Replaying (S : Type 0) : Type 0 where
+  pub seen : Seen
+  pub state : S
+  pub capture : List ℕ
+  pub frame : List ℕ
+
+-- what the exported replay is given: the pin, fonts and phase, the capture, and the three buffers that it may write
+pub record Exported : Type 0 where
+  pub parallel : Bool
+  pub seen : Seen
+  pub capture : List ℕ
+  pub frame : List ℕ
+  pub state : List ℕ
+  pub last : List ℕ
+
+-- what the exported drawing is given: the controls cross the boundary as bytes
+pub record ExportedDrawing : Type 0 where
+  pub seen : Seen
+  pub memories : Memories
+  pub control : List ℕ
+  pub frame : List ℕ
+
 -- the public calls whose outcome holds no new reference
 pub data PublicCall : Type 0 where
   fresh : PublicCall
@@ -80,8 +111,18 @@ pub data PublicCall : Type 0 where
   read : PublicCall
   recordAt : PublicCall
   answerNumber : PublicCall
+  readerOver : PublicCall
   readerRead : PublicCall
   readerMoved : PublicCall
+  replay : PublicCall
+  -- what other languages link
+  exportedDraw : PublicCall
+  exportedSend : PublicCall
+  exportedReplay : PublicCall
+  -- the glass as text and as a picture file
+  braille : PublicCall
+  plain : PublicCall
+  pbm : PublicCall
 
 abbrev pub contractOf : PublicCall → Contract
 contractOf fresh = record { Input = Bool; Outcome = Panel; Left = State; leaves = stateOf; means = freshState }
@@ -95,7 +136,7 @@ contractOf call =
     }
 contractOf draw =
     record {
-      Input = Shown Panel;
+      Input = Drawing Panel;
       Outcome = With ℕ;
       Left = Drawn;
       leaves = λ x. refusals.leaves (x .result) (x .buffer);
@@ -123,3 +164,40 @@ contractOf recordAt =
 contractOf answerNumber = record { Input = Answer; Outcome = ℕ; Left = ℕ; leaves = λ r. r; means = number }
 contractOf readerRead = record { Input = Reader; Outcome = Answer; Left = Answer; leaves = λ r. r; means = reader.found }
 contractOf readerMoved = record { Input = Reader; Outcome = Reader; Left = Reader; leaves = λ r. r; means = reader.moved }
+contractOf readerOver =
+    record { Input = At (RefT (List ℕ)); Outcome = Reader; Left = Reader; leaves = λ r. r; means = λ i. reader.over (i .capture) (i .at) }
+contractOf replay =
+    record {
+      Input = Replaying Panel;
+      Outcome = With Stop;
+      Left = Stopped;
+      leaves = λ x. stopsAt (x .result) (x .buffer);
+      means = λ i. stopped (replayed (i .seen) (i .capture) (stateOf (i .state)) (i .frame) 0);
+    }
+contractOf exportedDraw =
+    record {
+      Input = ExportedDrawing;
+      Outcome = With ℕ;
+      Left = Drawn;
+      leaves = λ x. refusals.leaves (x .result) (x .buffer);
+      means = λ i. drawn (i .seen) (i .memories) (unpacked (i .control)) (i .frame);
+    }
+contractOf exportedSend =
+    record {
+      Input = Sending;
+      Outcome = With ℕ;
+      Left = Sent;
+      leaves = λ x. sender.leaving (x .result) (x .buffer);
+      means = λ i. sent (i .register) (i .byte) (i .buffer);
+    }
+contractOf exportedReplay =
+    record {
+      Input = Exported;
+      Outcome = Report;
+      Left = Report;
+      leaves = λ x. report (x .number) (x .frame) (x .state) (x .last);
+      means = λ i. freshReplay (i .parallel) (i .seen) (i .capture) (i .frame) (i .state) (i .last);
+    }
+contractOf braille = record { Input = List ℕ; Outcome = List ℕ; Left = List ℕ; leaves = λ r. r; means = brailleOf.braille }
+contractOf plain = record { Input = List ℕ; Outcome = List ℕ; Left = List ℕ; leaves = λ r. r; means = plainOf.plain }
+contractOf pbm = record { Input = List ℕ; Outcome = List ℕ; Left = List ℕ; leaves = λ r. r; means = pbmOf.pbm }

@@ -16,7 +16,7 @@ use Rattle.links.specs.declared.Receiver.{Receiver}
 use Rattle.picture.specs.Picture.{Seen}
 use Rattle.picture.specs.Refusals.{refusalOf}
 use Rattle.lent.specs.State.{State}
-use Rattle.lent.specs.Steps.{Stepped, transferStep, bitStep, selectLowStep, resetStep}
+use Rattle.steps.specs.Steps.{Stepped, transferStep, bitStep, selectLowStep, resetStep}
 use Rattle.lent.specs.Calls.{Call, transfer, bit, selectLow, reset, otherLink, taken, takenBy, refused, accepted, unlessOther, called}
 
 module _ (e : Seen) (s : State) (f : List ℕ) (call : Call) (n : ℕ) (is : n ≡ refusalOf (length f) (length (e .half)) (length (e .full))) where

@@ -27,9 +27,9 @@ use Rattle.links.specs.Serial.{heard}
 use Rattle.picture.specs.Picture.{Seen}
 use Rattle.repaint.specs.Repaint.{regionWithin}
 use Rattle.repaint.proofs.RegionsWithin.{instruction-within, write-within, read-within}
-use Rattle.lent.specs.Steps.{Stepped, carriedOut, halfStep, transferStep, receivedActs, bitStep, selectLowStep, resetStep, stepLeft}
+use Rattle.steps.specs.Steps.{Stepped, carriedOut, halfStep, transferStep, receivedActs, bitStep, selectLowStep, resetStep, stepLeft}
 use Rattle.lent.specs.Calls.{Called, accepted, left}
-use Rattle.lent.specs.declared.Step.{Step}
+use Rattle.steps.specs.declared.Step.{Step}
 use Rattle.lent.specs.declared.Answer.{Answer}
 
 pub record Fit (d : Done) : Type 0 where

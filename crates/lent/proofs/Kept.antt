@@ -27,7 +27,7 @@ use Rattle.links.specs.Serial.{heard}
 use Rattle.picture.specs.Picture.{Seen}
 use Rattle.picture.specs.Refusals.{refusalOf}
 use Rattle.lent.specs.State.{State, freshState, Valid}
-use Rattle.lent.specs.Steps.{Stepped, carriedOut, halfStep, transferStep, receivedActs, bitStep, selectLowStep, resetStep}
+use Rattle.steps.specs.Steps.{Stepped, carriedOut, halfStep, transferStep, receivedActs, bitStep, selectLowStep, resetStep}
 use Rattle.lent.specs.Calls.{Call, transfer, bit, selectLow, reset, Taken, otherLink, taken, takenBy, Called, unlessOther, called, left}
 use Rattle.lent.specs.declared.Answer.{Answer}
 

@@ -1,4 +1,3 @@
 pub mod Kept
-pub mod Widths
 pub mod Doors
 pub mod Fit

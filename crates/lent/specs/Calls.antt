@@ -15,7 +15,7 @@ use Rattle.picture.specs.Refusals.{refusalOf}
 use Rattle.repaint.specs.Repaint.{repainted, countNamed}
 use Rattle.lent.specs.declared.Answer.{Answer}
 use Rattle.lent.specs.State.{State, state}
-use Rattle.lent.specs.Steps.{Stepped, transferStep, bitStep, selectLowStep, resetStep}
+use Rattle.steps.specs.Steps.{Stepped, transferStep, bitStep, selectLowStep, resetStep}
 
 -- the calls that carry something into the panel; reset with its pin
 pub data Call : Type 0 where
@@ -75,7 +75,7 @@ called e s frame call =
     then unlessOther e s frame (takenBy (s .memories) (s .control) (s .link) call)
     else refused s frame (refusalOf (length frame) (length (e .half)) (length (e .full)))
 
--- the answer of a refused call
+-- the answer of a refused call on lent memories
 abbrev pub refusedAnswer : Control → Link → ℕ → Answer
 refusedAnswer c l number = record { control = c; link = l; number = number; reply = 0; count = 0 }
 

@@ -2,16 +2,16 @@
 // Each leaves what the call by value of the same name leaves.
 use crate::Answer;
 use crate::Pin;
-use crate::Step;
-use crate::steps::bit_step;
-use crate::steps::reset_step;
-use crate::steps::select_low_step;
-use crate::steps::transfer_step;
 use controller::Control;
 use links::Link;
 use links::Transfer;
 use picture::refusals::refusal;
 use repaint::paint;
+use steps::Step;
+use steps::bit_step;
+use steps::reset_step;
+use steps::select_low_step;
+use steps::transfer_step;
 ghost use mathlib.Core.Path.{_≡_};
 ghost use lib.ListN.{length};
 ghost use Rattle.controller.specs.Memories.{before, after};
@@ -19,7 +19,7 @@ ghost use Rattle.controller.specs.State.{InRange};
 ghost use Rattle.picture.specs.Picture.{seen};
 ghost use Rattle.repaint.specs.Repaint.{regionWithin};
 ghost use Rattle.lent.specs.State.{state};
-ghost use Rattle.lent.specs.Steps.{stepLeft};
+ghost use Rattle.steps.specs.Steps.{stepLeft};
 ghost use Rattle.lent.specs.Calls.{transfer, bit, selectLow, reset, refusedAnswer, accepted, called, left};
 
 // A refused call: nothing changes, reply 0, count 0.

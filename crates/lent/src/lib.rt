@@ -1,11 +1,9 @@
 // The calls that a board makes, after document 01, on memories that the board keeps and lends. Each refuses bad input itself, carries
 // out what it was given, repaints the bytes that this names, and answers with its reply and the number of bytes named.
 use controller::Control;
-use controller::Done;
 use links::Link;
 
 mod calls;
-mod steps;
 
 pub use calls::bit;
 pub use calls::reset;
@@ -24,10 +22,4 @@ pub struct Answer {
     pub number: u8,
     pub reply: u8,
     pub count: usize,
-}
-
-// What an accepted call does before anything is painted.
-pub(crate) struct Step {
-    pub done: Done,
-    pub link: Link,
 }

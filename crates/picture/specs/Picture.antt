@@ -103,10 +103,10 @@ atPlace f i = f (i / 32) (i % 32)
 unfoldable pub picture : Seen → Memories → Control → List ℕ
 picture e m c = upto 1024 (atPlace (byteAt e m c))
 
--- the two bytes of one row of a cell
+-- for the painter of a cell's row: the row's two bytes
 abbrev pub cellPair : Seen → Memories → Control → ℕ → ℕ → Pair
 cellPair e m c row cell = record { left = byteAt e m c row (2 * cell); right = byteAt e m c row (2 * cell + 1) }
 
--- and their places
+-- and which bytes of the glass they are
 abbrev pub inCellRow : ℕ → ℕ → ℕ → ℕ → Bool
 inCellRow row cell r column = eqb r row && eqb (column / 2) cell

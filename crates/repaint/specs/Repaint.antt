@@ -43,6 +43,8 @@ paints set bytes frame = painting (count 1024 set) (painted set bytes frame)
 abbrev pub repaint : Seen → Memories → Control → Region → List ℕ → Painting
 repaint e m c region frame = painting (countNamed m c region) (repainted e m c region frame)
 
+-- From here on no sentence of document 01, but what the contracts of the painting functions ask and promise.
+
 -- the most bytes that a region can have: two cells of 32, a glyph half 32, a graphic half its one
 abbrev pub mostOf : Region → ℕ
 mostOf Nothing = 0

@@ -15,30 +15,14 @@ use Rattle.links.specs.Items.{WholeWrite}
 use Rattle.links.specs.Connector.{act, inTurn, does, Way, bytes, halves, serial, HasDl, KeepsDl}
 use Rattle.links.proofs.Agreement.{alike-does}
 use Rattle.picture.specs.Picture.{Seen}
-use Rattle.lent.specs.State.{State, state}
-use Rattle.lent.specs.Calls.{Call, called, Stands, after}
+use Rattle.lent.specs.State.{state}
+use Rattle.lent.specs.Calls.{Call, Stands, after}
 use Rattle.sequences.specs.Wires.{callsOf, onward, spelt, idleOn, resting, syncAfter, Fits, answers, numbersOf, countsOf, countsByWrite, sum}
 use Rattle.sequences.specs.Wires.{callsBefore, lastAlone, Board, begun, items, board, given, onLink, standing, withDl}
 use Rattle.sequences.specs.Agreement.{ReceivedAsGiven, SentIsReceived, WritesAreReceived, LinksAgree}
-use Rattle.sequences.proofs.Sequences.{after-append}
+use Rattle.sequences.proofs.Sequences.{after-append, numbers-append, zeros-append}
 use Rattle.sequences.proofs.ButDl.{boardButDl, board-respects}
 use Rattle.sequences.proofs.Heard.{Leaves, countWritten, act-fits, WriteLeaves, byte-leaves, halves-leave, serial-leaves}
-
-numbers-append :
-    (e : Seen) (calls more : List Call) (s : State) (frame : List ℕ)
-    → numbersOf e s frame (calls ++ more)
-    ≡ numbersOf e s frame calls ++ numbersOf e (after e s frame calls .state) (after e s frame calls .frame) more
-unfolding after answers
-numbers-append e [] more s frame = refl
-numbers-append e (call ∷ calls) more s frame =
-    ap (λ (ns : List ℕ). called e s frame call .number ∷ ns)
-    (numbers-append e calls more (called e s frame call .state) (called e s frame call .frame))
-
-zeros-append :
-    (calls more : List Call)
-    → replicate {A = ℕ} (length (calls ++ more)) 0 ≡ replicate (length calls) 0 ++ replicate (length more) 0
-zeros-append [] more = refl
-zeros-append (call ∷ calls) more = ap (λ (ns : List ℕ). 0 ∷ ns) (zeros-append calls more)
 
 -- writes in a row, each with its calls, from a board on a link to another, with the counts of each
 record Over (e : Seen) (b : Board) (l : Link) (calls : List (List Call)) (to : Board) (at : Link) (counts : List (List ℕ)) : Type 0 where

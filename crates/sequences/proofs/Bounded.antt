@@ -36,7 +36,7 @@ use Rattle.picture.specs.Refusals.{refusalOf}
 use Rattle.repaint.specs.Repaint.{named, countNamed}
 use Rattle.repaint.proofs.Counts.{count-cells, count-glyph, count-graphic, count-nothing}
 use Rattle.lent.specs.State.{State}
-use Rattle.lent.specs.Steps.{carriedOut, halfStep, transferStep, receivedActs, bitStep}
+use Rattle.steps.specs.Steps.{carriedOut, halfStep, transferStep, receivedActs, bitStep}
 use Rattle.lent.specs.Calls.{Call, transfer, bit, selectLow, reset, Taken, otherLink, taken, takenBy, Called, unlessOther, called}
 use Rattle.sequences.specs.Carried.{nothing, whole, halfCarries, receivedCarries, carries, isData}
 

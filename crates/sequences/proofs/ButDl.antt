@@ -26,7 +26,7 @@ use Rattle.links.specs.Connector.{act}
 use Rattle.links.specs.Statements.{Respected}
 use Rattle.picture.specs.Picture.{Seen, byteAt, effectsOf}
 use Rattle.repaint.specs.Repaint.{repainted, countNamed, named}
-use Rattle.lent.specs.Steps.{withText, carriedOut}
+use Rattle.steps.specs.Steps.{withText, carriedOut}
 use Rattle.sequences.specs.Wires.{Board, boardAfter, board, withDl}
 
 -- all but DL of what a transfer leaves, and of a board

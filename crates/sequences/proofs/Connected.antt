@@ -18,7 +18,7 @@ use Rattle.links.specs.Halves.{paired}
 use Rattle.links.specs.Serial.{heard}
 use Rattle.links.specs.Connector.{Replied, byteAt, halfDone, halfAt, transferAt, carried, bitAt}
 use Rattle.picture.specs.Picture.{Seen}
-use Rattle.lent.specs.Steps.{Stepped, stepped, carriedOut, halfStep, transferStep, receivedActs}
+use Rattle.steps.specs.Steps.{Stepped, stepped, carriedOut, halfStep, transferStep, receivedActs}
 use Rattle.lent.specs.Calls.{transfer, bit, Called, accepted, called, takenBy}
 use Rattle.sequences.specs.Wires.{Board, board, onLink}
 use Rattle.sequences.specs.Agreement.{Does, TransferIsConnected, BitIsConnected}

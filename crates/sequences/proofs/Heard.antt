@@ -37,7 +37,7 @@ use Rattle.picture.specs.Picture.{Seen}
 use Rattle.repaint.specs.Repaint.{named, repainted, countNamed}
 use Rattle.repaint.proofs.Counts.{count-nothing}
 use Rattle.lent.specs.State.{State, state}
-use Rattle.lent.specs.Steps.{stepped, carriedOut, unmoved, halfStep, transferStep, receivedActs, bitStep}
+use Rattle.steps.specs.Steps.{stepped, carriedOut, unmoved, halfStep, transferStep, receivedActs, bitStep}
 use Rattle.lent.specs.Calls.{Call, transfer, bit, takenBy, Called, accepted, unlessOther, called, after}
 use Rattle.sequences.specs.Wires.{byByte, byHalves, byBits, Fits, answers, numbersOf, countsOf, lastAlone, Board, board, onLink, standing}
 use Rattle.sequences.proofs.Bounded.{countOf}

@@ -24,7 +24,7 @@ use Rattle.links.specs.Halves as halves
 use Rattle.links.specs.Items.{WholeWrite}
 use Rattle.links.specs.Connector.{act, bytes, halves, serial, HasDl}
 use Rattle.picture.specs.Picture.{Seen}
-use Rattle.lent.specs.Steps.{carriedOut}
+use Rattle.steps.specs.Steps.{carriedOut}
 use Rattle.sequences.specs.Wires.{Board, begun, items, board, SetsDl}
 use Rattle.sequences.specs.Agreement.{FunctionSetsKeepDl}
 

@@ -33,7 +33,7 @@ use Rattle.picture.specs.Refusals.{refusalOf}
 use Rattle.repaint.specs.Repaint.{named, repainted}
 use Rattle.repaint.proofs.Unnamed.{never-whole, obeyed-unnamed, written-unnamed, readOut-unnamed}
 use Rattle.lent.specs.State.{State, Valid}
-use Rattle.lent.specs.Steps.{Stepped, carriedOut, halfStep, transferStep, receivedActs, bitStep, selectLowStep, resetStep}
+use Rattle.steps.specs.Steps.{Stepped, carriedOut, halfStep, transferStep, receivedActs, bitStep, selectLowStep, resetStep}
 use Rattle.lent.specs.Calls.{Call, transfer, bit, selectLow, reset, Taken, otherLink, taken, takenBy, Called, unlessOther, called}
 
 -- the bytes that are not named in what a transfer leaves are those of the picture of m and c

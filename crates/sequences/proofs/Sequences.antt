@@ -1,11 +1,13 @@
 -- Over any sequence of calls, fonts and phase held, the frame goes on showing the picture.
 use Prim.Native.Nat.{ℕ}
 use mathlib.Core.List.{List, [], _∷_, _++_}
-use mathlib.Core.Path.{_≡_, refl}
+use mathlib.Core.Path.{_≡_, refl, ap}
+use lib.ListN.{length, replicate}
 use Rattle.picture.specs.Picture.{Seen, picture}
 use Rattle.lent.specs.State.{State, Valid}
 use Rattle.lent.specs.Calls.{Call, called, after}
 use Rattle.lent.proofs.Kept.{called-valid}
+use Rattle.sequences.specs.Wires.{answers, numbersOf}
 use Rattle.sequences.proofs.Repainted.{called-shows}
 
 pub after-valid : (e : Seen) (s : State) (frame : List ℕ) (calls : List Call) → Valid s → Valid (after e s frame calls .state)
@@ -34,3 +36,19 @@ unfolding after
 after-append e [] more s frame = refl
 after-append e (call ∷ calls) more s frame =
     after-append e calls more (called e s frame call .state) (called e s frame call .frame)
+
+pub numbers-append :
+    (e : Seen) (calls more : List Call) (s : State) (frame : List ℕ)
+    → numbersOf e s frame (calls ++ more)
+    ≡ numbersOf e s frame calls ++ numbersOf e (after e s frame calls .state) (after e s frame calls .frame) more
+unfolding after answers
+numbers-append e [] more s frame = refl
+numbers-append e (call ∷ calls) more s frame =
+    ap (λ (ns : List ℕ). called e s frame call .number ∷ ns)
+    (numbers-append e calls more (called e s frame call .state) (called e s frame call .frame))
+
+pub zeros-append :
+    (calls more : List Call)
+    → replicate {A = ℕ} (length (calls ++ more)) 0 ≡ replicate (length calls) 0 ++ replicate (length more) 0
+zeros-append [] more = refl
+zeros-append (call ∷ calls) more = ap (λ (ns : List ℕ). 0 ∷ ns) (zeros-append calls more)

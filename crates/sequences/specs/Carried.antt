@@ -24,10 +24,12 @@ halfCarries (Kept pairing) = nothing
 halfCarries (Acts t) = whole t
 halfCarries (Answers reply) = nothing
 
+-- serial: a byte acts on the bit that completes it
 abbrev pub receivedCarries : Received → Carried
 receivedCarries received.Nothing = nothing
 receivedCarries (received.Byte register byte) = whole (written register byte)
 
+-- parallel: by DL the byte or what the half byte comes to; a call of the other link, select-low and reset carry out no transfer
 unfoldable pub carries : Control → Link → Call → Carried
 carries c (Parallel pairing) (transfer t) = if c .function .dl then whole t else halfCarries (paired pairing t)
 carries c (Serial receiver) (transfer t) = nothing

@@ -25,7 +25,7 @@ use Rattle.picture.specs.Picture.{Seen}
 use Rattle.picture.specs.Refusals.{refusalOf}
 use Rattle.repaint.specs.Repaint.{repainted, countNamed}
 use Rattle.lent.specs.State.{State, state}
-use Rattle.lent.specs.Steps.{carriedOut}
+use Rattle.steps.specs.Steps.{carriedOut}
 use Rattle.lent.specs.Calls as calls
 use Rattle.lent.specs.Calls.{Call, transfer, Called, called, Stands, after}
 
@@ -78,7 +78,7 @@ unfoldable pub syncAfter : Sync → List WholeWrite → Sync
 syncAfter sync [] = sync
 syncAfter sync (w ∷ writes) = syncAfter (Body (w .register) 0 0) writes
 
--- refusals 1, 2, 3: none
+-- frame and fonts have the lengths that refusals 1, 2 and 3 ask for
 abbrev pub Fits : Seen → List ℕ → Type 0
 Fits e frame = refusalOf (length frame) (length (e .half)) (length (e .full)) ≡ 0
 

@@ -64,6 +64,7 @@ moving target b = if bit 3 b then MoveDisplay (bit 2 b) else ifText target (Move
 abbrev pub functionSet : ℕ → Instruction
 functionSet b = FunctionSet (bit 4 b) (bit 2 b) (bit 1 b)
 
+-- the table, a clause for each row
 abbrev pub table : Modes → Row → ℕ → Columns
 table m 00h b = Ignored ∣ Ignored
 table m 01h b = Clear ∣ Standby
@@ -75,9 +76,11 @@ table m 20h-3Fh b = functionSet b ∣ functionSet b
 table m 40h-7Fh b = ifSr0 (m .sr) (GlyphAddress (bits5-0 b)) ∣ ifSr1 (m .sr) (Scroll (bits5-0 b))
 table m 80h-FFh b = TextAddress (bits5-0 b) ∣ GraphicAddress (bits5-0 b)
 
+-- what a byte says with RE = 0
 abbrev pub basicColumn : Modes → ℕ → Instruction
 basicColumn m b = table m (rowOf b) b .basic
 
+-- and with RE = 1
 abbrev pub extendedColumn : Modes → ℕ → Instruction
 extendedColumn m b = table m (rowOf b) b .extended
 

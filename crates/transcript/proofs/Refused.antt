@@ -59,7 +59,7 @@ called-length e s frame call =
     refl
 
 -- what is heard is no refusal
-heard-accepted : (e : Seen) (value left : ℕ) (s : State) (frame : List ℕ) → heard e value left s frame .number ≡ 0
+pub heard-accepted : (e : Seen) (value left : ℕ) (s : State) (frame : List ℕ) → heard e value left s frame .number ≡ 0
 unfolding heard
 heard-accepted e value zero s frame = refl
 heard-accepted e value (suc left) s frame = heard-accepted e value left _ _

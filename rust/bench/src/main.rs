@@ -1,39 +1,20 @@
-//! Whole draws: the proved code and plain Rust on the same screens.
+//! The proved code measured against plain Rust, on the same inputs in one run.
 //!
-//!     bench                        times both in one run, and prints a table of ratios
+//!     bench                        times all of it, and prints tables of ratios
+//!     bench draws|writes|strokes|programs    only these
 //!     bench pictures FOLDER        holds the proved pictures to those stored in FOLDER, a line 'ok ..' each
 //!     bench write-pictures FOLDER  stores the pictures that plain Rust draws dot by dot
+mod bytewise;
 mod dots;
+mod draws;
 mod pictures;
-mod proved;
+mod programs;
 mod screen;
 mod strokes;
+mod timing;
+mod writes;
 
 use screen::*;
-use std::hint::black_box;
-use std::time::Instant;
-
-const BATCHES: usize = 101;
-
-/// Nanoseconds for one call, batch by batch, sorted.
-fn timed(each: usize, mut call: impl FnMut()) -> Vec<f64> {
-    let mut times: Vec<f64> = (0..BATCHES)
-        .map(|_| {
-            let start = Instant::now();
-            for _ in 0..each {
-                call();
-            }
-            start.elapsed().as_nanos() as f64 / each as f64
-        })
-        .collect();
-    times.sort_by(f64::total_cmp);
-    times
-}
-
-fn spread(times: &[f64]) -> String {
-    let at = |q: usize| times[(times.len() - 1) * q / 100];
-    format!("{:.0} ({:.0}..{:.0})", at(50), at(10), at(90))
-}
 
 /// The fonts and the screens that every run draws.
 fn scenes() -> (Fonts, [(&'static str, Screen); 4]) {
@@ -48,44 +29,27 @@ fn scenes() -> (Fonts, [(&'static str, Screen); 4]) {
     (fonts, screens)
 }
 
-fn measure() {
-    let (fonts, screens) = scenes();
-    println!("Nanoseconds for a whole draw: the middle of {BATCHES} batches, and from the 10th to the 90th in a hundred.\n");
-    println!("| screen | dot by dot | proved | ratio |");
-    println!("|---|---|---|---|");
-    for (name, screen) in &screens {
-        let (mut plain, mut ours) = (vec![0u8; 1024], vec![0u8; 1024]);
-        let slow = timed(20, || {
-            dots::draw(black_box(screen), &fonts, true, black_box(&mut plain))
-        });
-        let fast = timed(400, || {
-            proved::draw(black_box(screen), &fonts, true, black_box(&mut ours));
-        });
-        assert_eq!(plain, ours, "the two pictures of the {name} screen differ");
-        let ratio = slow[BATCHES / 2] / fast[BATCHES / 2];
-        println!(
-            "| {name} | {} | {} | {ratio:.0} |",
-            spread(&slow),
-            spread(&fast)
-        );
-    }
-}
-
 fn main() {
     let words: Vec<String> = std::env::args().skip(1).collect();
     let words: Vec<&str> = words.iter().map(String::as_str).collect();
     let (fonts, screens) = scenes();
-    let passed = match words[..] {
+    let mut passed = true;
+    match words[..] {
         [] => {
-            measure();
+            draws::measure(&fonts, &screens);
+            writes::measure(&fonts);
             strokes::measure();
-            true
+            programs::measure();
         }
-        ["pictures", folder] => pictures::compare(folder, &fonts, &screens),
-        ["write-pictures", folder] => pictures::write(folder, &fonts, &screens),
+        ["draws"] => draws::measure(&fonts, &screens),
+        ["writes"] => writes::measure(&fonts),
+        ["strokes"] => strokes::measure(),
+        ["programs"] => programs::measure(),
+        ["pictures", folder] => passed = pictures::compare(folder, &fonts, &screens),
+        ["write-pictures", folder] => passed = pictures::write(folder, &fonts, &screens),
         _ => {
-            eprintln!("usage: bench [pictures FOLDER | write-pictures FOLDER]");
-            false
+            eprintln!("usage: bench [draws | writes | strokes | programs | pictures FOLDER | write-pictures FOLDER]");
+            passed = false;
         }
     };
     if !passed {

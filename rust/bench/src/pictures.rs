@@ -1,6 +1,6 @@
 //! Stored pictures: plain Rust drew them, and the proved drawing is held to them. They are PBM files, which image tools show.
+use crate::dots;
 use crate::screen::{Fonts, Screen};
-use crate::{dots, proved};
 use std::path::{Path, PathBuf};
 
 const HEADER: &[u8] = b"P4\n256 32\n";
@@ -28,7 +28,7 @@ pub fn write(folder: &str, fonts: &Fonts, screens: &[(&str, Screen)]) -> bool {
 fn same(path: &Path, screen: &Screen, fonts: &Fonts, phase: bool) -> Result<(), String> {
     let stored = std::fs::read(path).map_err(|error| error.to_string())?;
     let mut frame = [0x5Au8; 1024];
-    let number = proved::draw(screen, fonts, phase, &mut frame);
+    let number = proved::draw(screen.memories(), &mut frame, fonts.lent(phase));
     if number != 0 {
         return Err(format!("refused with {number}"));
     }

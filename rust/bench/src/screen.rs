@@ -1,4 +1,5 @@
 //! A state to draw: the memories, the controls as the boundary packs them, and fonts.
+use proved::{Lent, Memories};
 
 /// The controls' bytes that the drawings here look at; the boundary's `unpacked` has the whole order.
 pub const TARGET: usize = 0;
@@ -19,9 +20,30 @@ pub struct Screen {
     pub control: [u8; 23],
 }
 
+impl Screen {
+    pub fn memories(&self) -> Memories<'_> {
+        Memories {
+            text: &self.text,
+            glyph: &self.glyph,
+            graphic: &self.graphic,
+            control: &self.control,
+        }
+    }
+}
+
 pub struct Fonts {
     pub half: Vec<u8>,
     pub full: Vec<u8>,
+}
+
+impl Fonts {
+    pub fn lent(&self, phase: bool) -> Lent<'_> {
+        Lent {
+            half: &self.half,
+            full: &self.full,
+            phase,
+        }
+    }
 }
 
 /// A small generator with a seed, so that every run draws the same screens.

@@ -1,8 +1,10 @@
 //! A text write with its repaint, timed from outside: the program `strokes` does one thing a million times.
+use crate::timing::Times;
 use std::process::{Command, Stdio};
 use std::time::Instant;
 
-const PROGRAM: &str = "target/bin/strokes";
+/// Built for this processor by `tools/native`.
+const PROGRAM: &str = "target/native/strokes";
 const RUNS: usize = 11;
 const TIMES: f64 = 1e6;
 
@@ -28,17 +30,14 @@ pub fn measure() {
             match once(word) {
                 Some(time) => times[k].push(time),
                 None => {
-                    eprintln!("bench: {PROGRAM} cannot be run: `rt check strokes` builds it, and bench is run at the project's root");
+                    eprintln!("bench: {PROGRAM} cannot be run: `tools/native strokes` builds it, and bench is run at the project's root");
                     return;
                 }
             }
         }
     }
-    let middle = times.map(|mut t| {
-        t.sort_by(f64::total_cmp);
-        t[RUNS / 2]
-    });
-    println!("\nNanoseconds, the middle of {RUNS} runs of a million each.\n");
+    let times = times.map(Times::of);
+    println!("\nNanoseconds, the middle of {RUNS} runs of a million each, and from the 10th to the 90th in a hundred.\n");
     println!("| what | ns | as a part of a whole draw |");
     println!("|---|---|---|");
     let names = [
@@ -47,7 +46,8 @@ pub fn measure() {
         "a copy of the state alone",
         "whole draw",
     ];
-    for (name, time) in names.iter().zip(middle) {
-        println!("| {name} | {time:.0} | 1/{:.1} |", middle[3] / time);
+    for (name, time) in names.iter().zip(&times) {
+        let part = times[3].middle() / time.middle();
+        println!("| {name} | {} | 1/{part:.1} |", time.spread());
     }
 }

@@ -1,0 +1,136 @@
+//! Random captures: whole ones, damaged ones, and with buffers that are refused.
+use crate::case::Case;
+use crate::compare::From;
+use crate::damage::damage;
+use crate::random::Random;
+use crate::scenes::{self, play};
+use crate::wire::{Link, Wire};
+use model::{FRAME_LENGTH, FULL_FONT_LIMIT, HALF_FONT_LENGTH};
+
+/// A capture as a meter's, with noise; every record of a short one is compared, of a long one the last ones, since each is compared
+/// by a replay of all that comes before it.
+pub fn whole(mut random: Random) -> (Case, From) {
+    let parallel = !random.once_in(3);
+    let (passed, compared) = match random.below(64) {
+        0 => (200 + random.below(600), 16),
+        1..=8 => (random.below(120), 32),
+        _ => (0, 4 + random.below(40)),
+    };
+    let mut wire = Wire::new(parallel, random);
+    begin(&mut wire);
+    play(&mut wire, passed + compared);
+    wire.fill_record();
+    let Wire {
+        capture,
+        mut random,
+        ..
+    } = wire;
+    (Case::random(parallel, capture, &mut random), From(passed))
+}
+
+/// Most captures begin with the display on, and many with the modes that show most.
+fn begin(wire: &mut Wire) {
+    if wire.link != Link::Serial && wire.random.once_in(3) {
+        wire.other_width();
+    }
+    if wire.random.once_in(4) {
+        return;
+    }
+    let (switches, entry) = (wire.random.below(4) as u8, wire.random.below(4) as u8);
+    wire.instruction(0x0C | switches);
+    if wire.random.once_in(4) {
+        wire.instruction(0x04 | entry);
+    }
+    if wire.random.flag() {
+        wire.function_set(true, false);
+        wire.function_set(true, true);
+    }
+    if wire.random.once_in(3) {
+        scenes::scroll(wire);
+    }
+}
+
+/// The same, damaged: replay stops where the damage is.
+pub fn damaged(random: Random) -> (Case, From) {
+    let mut own = random.clone();
+    let (mut case, _) = whole(random);
+    case.capture.truncate(4 * 64);
+    damage(&mut case.capture, &mut own);
+    let near = case.records().saturating_sub(8);
+    (case, From(if own.once_in(4) { 0 } else { near }))
+}
+
+/// Records of any kind and value, marks right.
+pub fn any_records(mut random: Random) -> (Case, From) {
+    let parallel = random.flag();
+    let mut capture = Vec::new();
+    for _ in 0..random.below(32) {
+        let kind = if parallel { random.below(4) } else { 4 } as u8;
+        let (kind, value) = match (random.below(24), kind) {
+            (0, _) => (random.below(8) as u8, random.byte()),
+            (1, _) => (random.pick(&[5, 6]), random.below(2) as u8),
+            (_, 2 | 3) => (kind, 0),
+            _ => (kind, random.byte()),
+        };
+        capture.extend([0xA5, 0x5A, kind, value]);
+    }
+    (Case::random(parallel, capture, &mut random), From(0))
+}
+
+/// Buffers of wrong lengths, one or more at a time: refusals 1, 2 and 3.
+pub fn refused(random: Random) -> (Case, From) {
+    let mut own = random.clone();
+    let (mut case, _) = whole(random);
+    case.capture.truncate(4 * 16);
+    let wrong = 1 + own.below(7);
+    if wrong & 1 != 0 {
+        let length = own.pick(&[
+            0,
+            1,
+            512,
+            FRAME_LENGTH - 1,
+            FRAME_LENGTH + 1,
+            2 * FRAME_LENGTH,
+        ]);
+        case.frame = own.bytes(length);
+    }
+    if wrong & 2 != 0 {
+        let length = own.pick(&[
+            0,
+            16,
+            HALF_FONT_LENGTH - 1,
+            HALF_FONT_LENGTH + 1,
+            2 * HALF_FONT_LENGTH,
+        ]);
+        case.half = own.bytes(length);
+    }
+    if wrong & 4 != 0 {
+        let odd = 32 * own.below(300) + 1 + own.below(31);
+        let length = own.pick(&[
+            1,
+            31,
+            33,
+            odd,
+            FULL_FONT_LIMIT - 1,
+            FULL_FONT_LIMIT + 1,
+            FULL_FONT_LIMIT + 32,
+        ]);
+        case.full = own.bytes(length);
+    }
+    (case, From(0))
+}
+
+/// A long capture for the program `replay`, now and then damaged. It begins parallel, and changes over by resets.
+pub fn to_print(mut random: Random, records: usize) -> Vec<u8> {
+    let mut own = random.clone();
+    let parallel = !random.once_in(3);
+    let mut wire = Wire::new(true, random);
+    wire.reset(parallel);
+    begin(&mut wire);
+    play(&mut wire, records);
+    wire.fill_record();
+    if own.once_in(3) {
+        damage(&mut wire.capture, &mut own);
+    }
+    wire.capture
+}

@@ -1,0 +1,44 @@
+//! Captures as they should not be: one thing is put wrong, most often near the end, so that much is replayed before it.
+use crate::random::Random;
+use crate::wire::{EIGHT_BITS, SELECT_LOW};
+
+pub fn damage(capture: &mut Vec<u8>, random: &mut Random) {
+    let records = capture.len() / 4;
+    if records == 0 {
+        capture.extend([0xA5, 0x5A, 0x00]);
+        return;
+    }
+    let at = 4 * random.below(records).max(random.below(records));
+    match random.below(10) {
+        // One to three bytes remain.
+        0 => capture.truncate(at + 1 + random.below(3)),
+        1 => {
+            let length = 1 + random.below(3);
+            capture.extend(random.bytes(length));
+        }
+        // A mark that is wrong in a bit, or whose bytes have changed places.
+        2 => capture[at + random.clone().below(2)] ^= 1 << random.below(8),
+        3 => capture.swap(at, at + 1),
+        // A kind above 6.
+        4 => capture[at + 2] = 7 + random.below(249) as u8,
+        // A value that is not allowed, or any other kind and value.
+        5 => {
+            capture[at + 2] = random.pick(&[2, 3, 5, 6]);
+            capture[at + 3] = 1 + random.below(255) as u8;
+        }
+        6 => capture[at + 2] = random.below(9) as u8,
+        // A record of the other link, on a panel of either.
+        7 => {
+            capture[at + 2] = random.pick(&[0, 1, 2, 3, EIGHT_BITS, SELECT_LOW]);
+            capture[at + 3] = 0;
+        }
+        // A byte lost or put in: all after it is out of step.
+        8 => {
+            capture.remove(at + random.clone().below(4));
+        }
+        _ => {
+            let byte = random.pick(&[0xA5, 0x5A, 0x00]);
+            capture.insert(at + random.clone().below(4), byte);
+        }
+    }
+}

@@ -1,0 +1,169 @@
+//! Whole draws of states that are made up, also of those that no capture is likely to reach.
+use crate::compare::{bytes, Tally};
+use crate::names::frame_place;
+use crate::random::Random;
+use crate::scenes::word;
+use model::{
+    full_glyph_number, Half, Panel, Target, FRAME_LENGTH, FULL_FONT_LIMIT, HALF_FONT_LENGTH,
+};
+use proved::{Lent, Memories};
+
+/// A state at random, within its ranges, its link idle.
+pub fn panel(random: &mut Random) -> Panel {
+    let mut panel = Panel::fresh(true);
+    panel.text.fill_with(|| u16::from_be_bytes(word(random)));
+    panel.glyph.fill_with(|| random.next() as u16);
+    for row in &mut panel.graphic {
+        row.fill_with(|| random.next() as u16);
+    }
+    (panel.target, panel.counter) = match random.below(3) {
+        0 => (Target::Text, random.below(64) as u8),
+        1 => (Target::Glyph, random.below(64) as u8),
+        _ => (Target::Graphic, random.below(16) as u8),
+    };
+    panel.graphic_row = random.below(64) as u8;
+    panel.next = if random.flag() { Half::High } else { Half::Low };
+    panel.dummy_due = random.flag();
+    panel.waiting = random.flag().then(|| random.below(64) as u8);
+    panel.display = !random.once_in(8);
+    panel.standby = random.once_in(8);
+    for flag in [
+        &mut panel.id,
+        &mut panel.s,
+        &mut panel.cursor,
+        &mut panel.blink,
+        &mut panel.dl,
+        &mut panel.re,
+        &mut panel.g,
+        &mut panel.sr,
+    ] {
+        *flag = random.flag();
+    }
+    panel.scroll = random.below(64) as u8;
+    panel.shift = random.below(16) as u8;
+    panel.reversed.fill_with(|| random.flag());
+    panel
+}
+
+/// A shown screen with nothing over its words.
+fn plain() -> Panel {
+    let mut panel = Panel::fresh(true);
+    panel.display = true;
+    panel
+}
+
+/// Draws on both sides, into frames of other content.
+fn same(
+    panel: &Panel,
+    state: &[u8; proved::STATE],
+    lent: Lent,
+    tally: &mut Tally,
+) -> Option<String> {
+    let mut ours = vec![0x5A; FRAME_LENGTH];
+    let mut theirs = vec![0x5A; FRAME_LENGTH];
+    let proved = proved::draw(Memories::of(state), &mut ours, lent);
+    let model = panel.draw(&mut theirs, lent.half, lent.full, lent.phase);
+    tally.draws += 1;
+    if proved != model {
+        return Some(format!(
+            "draw's number {proved} of the proved code, {model} of the model"
+        ));
+    }
+    bytes("a state drawn", "picture", frame_place, &ours, &theirs)
+}
+
+fn state(panel: &Panel) -> [u8; proved::STATE] {
+    panel.bytes().try_into().expect("a state is 2,337 bytes")
+}
+
+/// A state that is made up. The boundary takes a control's byte by the bits that it should have, so the others are anything.
+pub fn made_up(random: &mut Random, tally: &mut Tally) -> Option<String> {
+    let panel = panel(random);
+    let mut state = state(&panel);
+    if random.flag() {
+        spoil(&mut state, &panel, random);
+    }
+    let half = random.bytes(HALF_FONT_LENGTH);
+    let full = 32 * random.below(200);
+    let full = random.bytes(full);
+    let lent = Lent {
+        half: &half,
+        full: &full,
+        phase: random.flag(),
+    };
+    same(&panel, &state, lent, tally)
+}
+
+/// Fills the bits of the controls that do not count.
+fn spoil(state: &mut [u8; proved::STATE], panel: &Panel, random: &mut Random) {
+    let counter = if panel.target == Target::Graphic {
+        0xF0
+    } else {
+        0xC0
+    };
+    for (at, control) in state[2304..2327].iter_mut().enumerate() {
+        *control |= random.byte()
+            & match at {
+                0 => 0xFC,
+                1 => counter,
+                2 | 6 | 17 => 0xC0,
+                18 => 0xF0,
+                _ => 0xFE,
+            };
+    }
+}
+
+/// Every word there is, 32 to a screen, with a full font of any length.
+pub fn every_word(random: &mut Random, tally: &mut Tally) -> Option<String> {
+    let half = random.bytes(HALF_FONT_LENGTH);
+    let longest = random.bytes(FULL_FONT_LIMIT);
+    let mut shown = plain();
+    for first in (0..0x1_0000).step_by(32) {
+        shown.glyph.fill_with(|| random.next() as u16);
+        for (k, word) in shown.text[..32].iter_mut().enumerate() {
+            *word = (first + k) as u16;
+        }
+        let length = if random.flag() {
+            FULL_FONT_LIMIT
+        } else {
+            32 * random.below(FULL_FONT_LIMIT / 32)
+        };
+        let lent = Lent {
+            half: &half,
+            full: &longest[..length],
+            phase: false,
+        };
+        let different = same(&shown, &state(&shown), lent, tally);
+        if different.is_some() {
+            return different;
+        }
+    }
+    None
+}
+
+/// Every allowed length of the full font, with the glyphs on both sides of its end; and lengths that are refused.
+pub fn every_length(random: &mut Random, tally: &mut Tally) -> Option<String> {
+    let half = random.bytes(HALF_FONT_LENGTH);
+    let longest = random.bytes(FULL_FONT_LIMIT + 64);
+    let words: Vec<u16> = (0xA1A0..=0xF7FF)
+        .filter(|word: &u16| full_glyph_number((word >> 8) as u8, *word as u8).is_some())
+        .collect();
+    let mut shown = plain();
+    for glyphs in 0..=FULL_FONT_LIMIT / 32 + 1 {
+        for (k, word) in shown.text[..32].iter_mut().enumerate() {
+            *word = words[(glyphs + k + words.len() - 16) % words.len()];
+        }
+        for length in [32 * glyphs, 32 * glyphs + 1 + random.below(31)] {
+            let lent = Lent {
+                half: &half,
+                full: &longest[..length],
+                phase: true,
+            };
+            let different = same(&shown, &state(&shown), lent, tally);
+            if different.is_some() {
+                return different.map(|what| format!("full font of {length} bytes: {what}"));
+            }
+        }
+    }
+    None
+}

@@ -1,0 +1,54 @@
+//! Names for the places of a state and a frame, for messages.
+
+const CONTROLS: [&str; 23] = [
+    "target",
+    "counter",
+    "graphic row",
+    "next half",
+    "dummy due",
+    "row waits",
+    "waiting row",
+    "I/D",
+    "S",
+    "display",
+    "cursor",
+    "blink",
+    "DL",
+    "RE",
+    "G",
+    "SR",
+    "standby",
+    "scroll",
+    "shift",
+    "line 0 reversed",
+    "line 1 reversed",
+    "line 2 reversed",
+    "line 3 reversed",
+];
+
+const LINK: [&str; 10] = [
+    "link",
+    "first half's kind",
+    "first half's bits",
+    "receiver",
+    "run of ones",
+    "header bits seen",
+    "read bit",
+    "register bit",
+    "body bits seen",
+    "data bits",
+];
+
+pub fn state_place(at: usize) -> String {
+    match at {
+        0..=127 => format!("text word {}, byte {}", at / 2, at % 2),
+        128..=255 => format!("glyph word {}, byte {}", (at - 128) / 2, at % 2),
+        256..=2303 => format!("graphic row {}, byte {}", (at - 256) / 32, at % 32),
+        2304..=2326 => CONTROLS[at - 2304].to_string(),
+        _ => LINK[at - 2327].to_string(),
+    }
+}
+
+pub fn frame_place(at: usize) -> String {
+    format!("row {}, byte {}", at / 32, at % 32)
+}

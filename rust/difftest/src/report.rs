@@ -1,0 +1,46 @@
+//! A difference is written down: a capture that `./run` replays, and beside it what differed.
+use crate::case::Case;
+use crate::wire::RESET;
+use std::path::PathBuf;
+
+const FOLDER: &str = "target/difftest";
+
+/// Writes the case and answers the message.
+pub fn report(name: &str, case: &Case, what: &str) -> String {
+    let mut capture = Vec::new();
+    if !case.parallel {
+        // `replay` begins parallel: the reset makes the panel that this case began with.
+        capture.extend([0xA5, 0x5A, RESET, 0]);
+    }
+    capture.extend(&case.capture);
+    let path = PathBuf::from(FOLDER).join(format!("{name}.capture"));
+    let message = format!(
+        "{what}\n  {} records; frame of {} bytes, half font of {}, full font of {}, phase {}, begun {}{}\n",
+        case.records(),
+        describe(&case.frame),
+        describe(&case.half),
+        describe(&case.full),
+        case.phase as u8,
+        if case.parallel { "parallel" } else { "serial" },
+        if case.parallel { "" } else { " (the capture has a reset before it)" },
+    );
+    let written = std::fs::create_dir_all(FOLDER)
+        .and_then(|_| std::fs::write(&path, &capture))
+        .and_then(|_| std::fs::write(path.with_extension("txt"), &message));
+    let kept = match written {
+        Ok(()) => format!(
+            "  ./run {0} and difftest file {0} replay it",
+            path.display()
+        ),
+        Err(error) => format!("  it could not be written: {}: {error}", path.display()),
+    };
+    message + &kept
+}
+
+fn describe(bytes: &[u8]) -> String {
+    if bytes.iter().all(|&byte| byte == 0) {
+        format!("{} zero", bytes.len())
+    } else {
+        format!("{} random", bytes.len())
+    }
+}
