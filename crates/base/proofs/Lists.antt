@@ -2,13 +2,13 @@
 use lib.Dec.{leb}
 use borrow.Author.Tests.{leb-true, leb-false}
 use mathlib.Core.Bool.{Bool, true, false}
-use Prim.Native.Nat.{ℕ, zero, suc, _<_, min}
+use Prim.Native.Nat.{ℕ, zero, suc, _+_, _<_, min}
 use mathlib.Core.Path.{_≡_, refl, sym, ap, ap₂, _∙_, subst}
-use mathlib.Core.List.{List, _∷_}
-use native.Mathlib.Nat.{not-suc-le-zero, le-of-suc-le-suc, min-eq-left, min-eq-right, le-of-lt}
+use mathlib.Core.List.{List, [], _∷_, _++_}
+use native.Mathlib.Nat.{add-zero, not-suc-le-zero, le-of-suc-le-suc, min-eq-left, min-eq-right, le-of-lt}
 use native.Mathlib.Omega.{arith}
-use lib.ListN.{length, getD, drop, drop-of-length-le}
-use lib.Seq.{ext-getD, drop-length}
+use lib.ListN.{length, getD, set, drop, drop-of-length-le}
+use lib.Seq.{ext-getD, drop-length, sets}
 use Rattle.base.specs.Lists.{upto}
 
 pub length-upto : (n : ℕ) (f : ℕ → ℕ) → length (upto n f) ≡ n
@@ -44,3 +44,10 @@ drop-min {A} n s = by (leb n (length s)) refl
     by true e = rw (min-eq-left (leb-true n (length s) e))
     by false e =
         rw (min-eq-right (le-of-lt (leb-false n (length s) e))) (drop-length s ∙ sym (drop-of-length-le s (le-of-lt (leb-false n (length s) e))))
+
+-- to store one run after another is to store the two as one
+pub sets-append : {A : Type 0} (l : List A) (i : ℕ) (a b : List A) → sets l i (a ++ b) ≡ sets (sets l i a) (i + length a) b
+sets-append l i [] b = ap (λ (k : ℕ). sets l k b) (sym (add-zero i))
+sets-append l i (x ∷ a) b =
+    let e : suc i + length a ≡ i + length (x ∷ a) = omega arith in
+    sets-append (set l i x) (suc i) a b ∙ ap (λ (k : ℕ). sets (sets (set l i x) (suc i) a) k b) e

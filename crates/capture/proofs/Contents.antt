@@ -54,6 +54,23 @@ stops End on h = refl
 pub contents-at-stop : (c : List ℕ) (at : ℕ) → passed (answerAt c at) ≡ 0 → contents (drop at c) ≡ stopped (answerAt c at)
 contents-at-stop c at h = contents-turn (drop at c) ∙ stops (answerAt c at) _ h
 
+goes-on-to-stop : (a : Answer) (on : Contents) → passed (on .stop) ≡ 0 → passed (goesOn a on .stop) ≡ 0
+goes-on-to-stop (Record kind value) on h = h
+goes-on-to-stop Short on h = refl
+goes-on-to-stop WrongMark on h = refl
+goes-on-to-stop WrongKind on h = refl
+goes-on-to-stop WrongValue on h = refl
+goes-on-to-stop End on h = refl
+
+-- reading does not stop at a record
+pub contents-stop : (c : List ℕ) → passed (contents c .stop) ≡ 0
+unfolding contents answer
+contents-stop [] = refl
+contents-stop (a ∷ []) = refl
+contents-stop (a ∷ b ∷ []) = refl
+contents-stop (a ∷ b ∷ d ∷ []) = refl
+contents-stop (a ∷ b ∷ d ∷ e ∷ c) = goes-on-to-stop (answer (a ∷ b ∷ d ∷ e ∷ c)) (contents c) (contents-stop c)
+
 -- the contents of one part, then those of the next where the first was read to its end
 abbrev pub joinedAt : Answer → Contents → Contents → Contents
 joinedAt End x y = record { records = x .records ++ y .records; stop = y .stop }

@@ -21,6 +21,14 @@ use Rattle.controller.specs.Memories.{half}
 use Rattle.controller.specs.Data.{isText, completes, shifts}
 use Rattle.controller.specs.Glass.{shownRow, shownWord, wordImage, isImage}
 
+-- a cell's bytes are its two columns on the visible rows of its line
+unfoldable pub inCell : View → ℕ → ℕ → ℕ → Bool
+inCell v word row column = eqb (shownRow v row / 16) (word / 16) && eqb ((column / 2 + v .shift) % 16) (word % 16)
+
+abbrev pub inSomeCell : View → Cell → ℕ → ℕ → Bool
+inSomeCell v Nowhere row column = false
+inSomeCell v (Word word) row column = inCell v word row column
+
 -- the counter's cell, where target is text
 abbrev pub counterCell : Place → Cell
 counterCell p = if isText (p .target) then Word (p .counter) else Nowhere
@@ -97,23 +105,15 @@ readNames before after =
     else if completes (before .place) then bothCells (before .place) (after .place)
     else Nothing
 
--- a cell's bytes are its two columns on the visible rows of its line
-unfoldable pub inCell : View → ℕ → ℕ → ℕ → Bool
-inCell v word row column = eqb (shownRow v row / 16) (word / 16) && eqb ((column / 2 + v .shift) % 16) (word % 16)
-
-abbrev pub inSomeCell : View → Cell → ℕ → ℕ → Bool
-inSomeCell v Nowhere row column = false
-inSomeCell v (Word word) row column = inCell v word row column
+-- the graphic byte, if visible
+unfoldable pub showsGraphic : View → ℕ → ℕ → Bool → ℕ → ℕ → Bool
+showsGraphic v y k low row column = eqb (shownRow v row) y && eqb column (2 * k + half low)
 
 -- each byte showing that half of that image row
 unfoldable pub showsGlyph : View → List ℕ → ℕ → Bool → ℕ → ℕ → Bool
 showsGlyph v text word low row column =
     eqb (shownRow v row % 16) (word % 16)
     && (isImage (wordImage text (shownWord v row (column / 2))) (word / 16) && eqb (column % 2) (half low))
-
--- the graphic byte, if visible
-unfoldable pub showsGraphic : View → ℕ → ℕ → Bool → ℕ → ℕ → Bool
-showsGraphic v y k low row column = eqb (shownRow v row) y && eqb column (2 * k + half low)
 
 -- whether a region has byte `column` of row `row` of the glass
 unfoldable pub covers : View → List ℕ → Region → ℕ → ℕ → Bool

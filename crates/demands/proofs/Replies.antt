@@ -27,7 +27,7 @@ use Rattle.lent.specs.Calls.{Call, transfer, bit, selectLow, reset, Taken, othe
 use Rattle.demands.specs.Demand2.{isRead, RepliesToReads}
 
 module _ (m : Memories) (c : Control) where
-  write-reply : (register : Bool) (byte : ℕ) → carriedOut m c (halves.written register byte) .done .reply ≡ 0
+  write-reply : (register : Bool) (byte : ℕ) → carriedOut m c (halves.writing register byte) .done .reply ≡ 0
   unfolding carriedOut executed written
   write-reply false byte = refl
   write-reply true byte = refl
@@ -42,7 +42,7 @@ module _ (m : Memories) (c : Control) where
   half-reply (Lower was lower) register value = refl
 
   transfer-reply :
-      (pairing : Pairing) (register : Bool) (byte : ℕ) → transferStep m c pairing (halves.written register byte) .acted .done .reply ≡ 0
+      (pairing : Pairing) (register : Bool) (byte : ℕ) → transferStep m c pairing (halves.writing register byte) .acted .done .reply ≡ 0
   unfolding transferStep halves.paired
   transfer-reply pairing false byte =
       either (λ (x : Stepped). x .acted .done .reply ≡ 0) (c .function .dl) (write-reply false byte) (half-reply pairing false byte)

@@ -3,7 +3,7 @@ use mathlib.Core.Path.{_≡_, refl, ap, sym, _∙_}
 use Rattle.lent.specs.State.{State}
 use Rattle.panel.specs.declared.Panel.{Panel}
 use Rattle.demands.specs.Tight.{Contract, Tight, PublicCall, contractOf, fresh, call, draw, lentCall, send, read, recordAt, answerNumber, readerOver, readerRead, readerMoved}
-use Rattle.demands.specs.Tight.{replay, exportedDraw, exportedSend, exportedReplay, braille, plain, pbm}
+use Rattle.demands.specs.Tight.{replay, transcribe, putLast, exportedDraw, exportedSend, exportedReplay, braille, plain, pbm}
 
 -- the panel of a state
 abbrev panelOf : State → Panel
@@ -56,6 +56,15 @@ tight replay =
       buffer = k .ending .frame;
     })
     (λ x. refl)
+tight transcribe =
+    tight-by (contractOf transcribe)
+    (λ k. record {
+      told = record { panel = panelOf (k .ending .state); place = k .ending .place; number = k .ending .number; filled = k .filled };
+      frame = k .ending .frame;
+      text = k .text;
+    })
+    (λ x. refl)
+tight putLast = tight-by (contractOf putLast) (λ k. record { result = k .filled; buffer = k .buffer }) (λ x. refl)
 tight exportedDraw = tight-by (contractOf exportedDraw) (λ d. record { result = d .number; buffer = d .frame }) (λ x. refl)
 tight exportedSend = tight-by (contractOf exportedSend) (λ d. record { result = d .number; buffer = d .buffer }) (λ x. refl)
 tight exportedReplay = tight-by (contractOf exportedReplay) (λ x. x) (λ x. refl)

@@ -24,6 +24,9 @@ use Rattle.capture.specs.Record.{answer, number}
 use Rattle.capture.specs.Capture.{answerAt}
 use Rattle.capture.specs.Reader as reader
 use Rattle.transcript.specs.declared.Stop.{Stop}
+use Rattle.transcript.specs.declared.Told.{Told}
+use Rattle.transcript.specs.Text as lines
+use Rattle.transcript.specs.Transcript.{Transcribed, transcribed, tells}
 use Rattle.transcript.specs.Replay.{Stopped, stopped, stopsAt, replayed}
 use Rattle.boundary.specs.Packed.{unpacked}
 use Rattle.boundary.specs.Report.{Report, report, freshReplay}
@@ -99,6 +102,26 @@ pub record ExportedDrawing : Type 0 where
   pub control : List ℕ
   pub frame : List ℕ
 
+-- what `transcribe` is given, and what it leaves
+pub record Transcribing : Type 0 where
+  pub seen : Seen
+  pub state : Panel
+  pub capture : List ℕ
+  pub frame : List ℕ
+  pub place : ℕ
+  pub text : List ℕ
+
+pub record LeftTold : Type 0 where
+  pub told : Told
+  pub frame : List ℕ
+  pub text : List ℕ
+
+-- what `put_last` is given
+pub record Ending : Type 0 where
+  pub buffer : List ℕ
+  pub place : ℕ
+  pub number : ℕ
+
 -- the public calls whose outcome holds no new reference
 pub data PublicCall : Type 0 where
   fresh : PublicCall
@@ -115,6 +138,8 @@ pub data PublicCall : Type 0 where
   readerRead : PublicCall
   readerMoved : PublicCall
   replay : PublicCall
+  transcribe : PublicCall
+  putLast : PublicCall
   -- what other languages link
   exportedDraw : PublicCall
   exportedSend : PublicCall
@@ -173,6 +198,22 @@ contractOf replay =
       Left = Stopped;
       leaves = λ x. stopsAt (x .result) (x .buffer);
       means = λ i. stopped (replayed (i .seen) (i .capture) (stateOf (i .state)) (i .frame) 0);
+    }
+contractOf transcribe =
+    record {
+      Input = Transcribing;
+      Outcome = LeftTold;
+      Left = Transcribed;
+      leaves = λ x. tells (x .told) (x .frame) (x .text);
+      means = λ i. transcribed (i .seen) (i .capture) (stateOf (i .state)) (i .frame) (i .place) (i .text);
+    }
+contractOf putLast =
+    record {
+      Input = Ending;
+      Outcome = With ℕ;
+      Left = lines.Begun;
+      leaves = λ x. lines.leaves (x .result) (x .buffer);
+      means = λ i. lines.begunWith (i .buffer) (lines.lastLine (i .place) (i .number));
     }
 contractOf exportedDraw =
     record {

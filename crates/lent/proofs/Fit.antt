@@ -62,7 +62,7 @@ module _ (m : Memories) (c : Control) (r : InRange c) where
 
   received-fit : (x : Received) → Fit (receivedActs m c x .done)
   received-fit received.Nothing = record { control = r; region = tt }
-  received-fit (received.Byte register byte) = carriedOut-fit (halves.written register byte)
+  received-fit (received.Byte register byte) = carriedOut-fit (halves.writing register byte)
 
   pub bitStep-fit : (receiver : Receiver) (b : Bool) → Fit (bitStep m c receiver b .acted .done)
   unfolding bitStep

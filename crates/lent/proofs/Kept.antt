@@ -60,7 +60,7 @@ module _ (m : Memories) (c : Control) (v : controls.Valid m c) where
 
   pub received-valid : (r : Received) → ActedValid (receivedActs m c r)
   received-valid received.Nothing = v
-  received-valid (received.Byte register byte) = carriedOut-valid (halves.written register byte)
+  received-valid (received.Byte register byte) = carriedOut-valid (halves.writing register byte)
 
   pub bitStep-valid : (receiver : Receiver) (b : Bool) → ActedValid (bitStep m c receiver b .acted)
   unfolding bitStep

@@ -8,7 +8,7 @@ use Rattle.links.specs.declared.Pairing.{Pairing}
 use Rattle.links.specs.declared.Pairing.the-variants.{Empty, Upper}
 use Rattle.links.specs.declared.Half.{Half}
 use Rattle.links.specs.declared.Half.the-variants.{Acts}
-use Rattle.links.specs.Halves.{bits7-4, written}
+use Rattle.links.specs.Halves.{bits7-4, writing}
 use Rattle.links.specs.Items.{WholeWrite, comes, happens, Items, asBytes, above, asHalves, Alike, none, writes, events}
 use Rattle.links.specs.Connector.{Controller, act, At, inTurn, bytes, halves, serial, halfDone, transferAt, does}
 use Rattle.links.specs.Connector.{overParallel, over, HasDl}
@@ -29,25 +29,25 @@ module _ {S E : Type 0} (on : Controller S E) where
 
   -- DL = 1: a write's transfer acts
   byte-acts : (s : S) (register : Bool) (byte : ℕ) → on .dl s ≡ true →
-      transferAt on (closed s) (written register byte) .at ≡ closed (act on s register byte)
+      transferAt on (closed s) (writing register byte) .at ≡ closed (act on s register byte)
   unfolding transferAt
   byte-acts s register byte d = rw d
 
   -- DL = 0: a write's first half leaves the controller alone
   first-half-kept : (s : S) (w : WholeWrite) (low : ℕ) → on .dl s ≡ false →
-      transferAt on (closed s) (written (w .register) (above (bits7-4 (w .byte)) low)) .at ≡ opened s w
+      transferAt on (closed s) (writing (w .register) (above (bits7-4 (w .byte)) low)) .at ≡ opened s w
   unfolding transferAt
   first-half-kept s w low d =
       rw d (ap (λ (h : Half). halfDone on s h .at) (second-half-acts (w .register) (w .byte) (w .small) low 0 .0))
 
   write-closes : (s : S) (register : Bool) (byte : ℕ) →
-      halfDone on s (Acts (written register byte)) .at ≡ closed (act on s register byte)
+      halfDone on s (Acts (writing register byte)) .at ≡ closed (act on s register byte)
   write-closes s false byte = refl
   write-closes s true byte = refl
 
   -- and its second half acts
   second-half-taken : (s : S) (w : WholeWrite) (low : ℕ) → on .dl s ≡ false →
-      transferAt on (opened s w) (written (w .register) (above (bits3-0 (w .byte)) low)) .at ≡ closed (after s w)
+      transferAt on (opened s w) (writing (w .register) (above (bits3-0 (w .byte)) low)) .at ≡ closed (after s w)
   unfolding transferAt
   second-half-taken s w low d =
       rw d
@@ -70,7 +70,7 @@ module _ {S E : Type 0} (on : Controller S E) where
   unfolding inTurn asHalves HasDl
   halves-act [] low s d = refl
   halves-act (comes w ∷ items) low s d =
-      let second = comes (written (w .register) (above (bits3-0 (w .byte)) (low 1))) in
+      let second = comes (writing (w .register) (above (bits3-0 (w .byte)) (low 1))) in
       let rest = asHalves (λ k. low (k + 2)) items in
       ap (λ (at : At S Pairing). overParallel on at (second ∷ rest)) (first-half-kept s w (low 0) (d .0))
       ∙ ap (λ (at : At S Pairing). overParallel on at rest) (second-half-taken s w (low 1) (d .0))

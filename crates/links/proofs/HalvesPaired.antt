@@ -7,7 +7,7 @@ use Rattle.base.specs.Bits.{bits3-0}
 use Rattle.links.specs.declared.Transfer.the-variants.{Status, Read}
 use Rattle.links.specs.declared.Pairing.the-variants.{Empty, Upper, Lower}
 use Rattle.links.specs.declared.Half.the-variants.{Kept, Acts}
-use Rattle.links.specs.Halves.{bits7-4, raised, joined, written, writeHalf, readHalf, paired, firstReply}
+use Rattle.links.specs.Halves.{bits7-4, raised, joined, writing, writeHalf, readHalf, paired, firstReply}
 use Rattle.links.specs.Items.{above}
 use Rattle.links.specs.Connector.{Answered, Controller, Replied}
 use Rattle.links.specs.Statements.{InHalves, SecondHalfActs, HalvesReadWhole}
@@ -19,13 +19,13 @@ low-bits-lost half low h = omega arith
 halves-join : (byte : ℕ) → byte < 256 → joined (bits7-4 byte) (bits3-0 byte) ≡ byte
 halves-join byte h = omega arith
 
-first-kept : (register : Bool) (value : ℕ) → paired Empty (written register value) ≡ Kept (Upper register (bits7-4 value))
+first-kept : (register : Bool) (value : ℕ) → paired Empty (writing register value) ≡ Kept (Upper register (bits7-4 value))
 unfolding paired writeHalf
 first-kept false value = refl
 first-kept true value = refl
 
 second-acts : (register : Bool) (upper value : ℕ) →
-    paired (Upper register upper) (written register value) ≡ Acts (written register (joined upper (bits7-4 value)))
+    paired (Upper register upper) (writing register value) ≡ Acts (writing register (joined upper (bits7-4 value)))
 unfolding paired writeHalf
 second-acts false upper value = refl
 second-acts true upper value = refl
@@ -35,8 +35,8 @@ second-half-acts register byte h low other = (
   first-kept register (above (bits7-4 byte) low)
       ∙ ap (λ (half : ℕ). Kept (Upper register half)) (low-bits-lost (bits7-4 byte) low (omega arith)),
   second-acts register (bits7-4 byte) (above (bits3-0 byte) other)
-      ∙ ap (λ (half : ℕ). Acts (written register (joined (bits7-4 byte) half))) (low-bits-lost (bits3-0 byte) other (omega arith))
-      ∙ ap (λ (b : ℕ). Acts (written register b)) (halves-join byte h),
+      ∙ ap (λ (half : ℕ). Acts (writing register (joined (bits7-4 byte) half))) (low-bits-lost (bits3-0 byte) other (omega arith))
+      ∙ ap (λ (b : ℕ). Acts (writing register b)) (halves-join byte h),
 )
 
 -- the two parts of an answer, as they stand on the wires, are the answer

@@ -13,7 +13,7 @@ use Rattle.links.specs.declared.Receiver.{Receiver}
 use Rattle.links.specs.declared.Received.{Received}
 use Rattle.links.specs.declared.Received.the-variants.{Nothing, Byte}
 use Rattle.links.specs.declared.Heard.{Heard}
-use Rattle.links.specs.Halves.{written, paired, firstReply, pairingAfter}
+use Rattle.links.specs.Halves.{writing, paired, firstReply, pairingAfter}
 use Rattle.links.specs.Serial.{heard}
 use Rattle.links.specs.Idle.{idleReceiver}
 use Rattle.links.specs.Items.{Turn, comes, happens, Items, asBytes, asHalves, asBits}
@@ -58,7 +58,7 @@ module _ {S E : Type 0} (on : Controller S E) where
 
   -- the state after a byte written to a register
   abbrev pub act : S → Bool → ℕ → S
-  act s register byte = on .perform s (written register byte) .state
+  act s register byte = on .perform s (writing register byte) .state
 
   abbrev answeredWhole : Pairing → Answered S → Replied S
   answeredWhole pairing a = record { at = record { state = a .state; link = pairing }; reply = a .answer }

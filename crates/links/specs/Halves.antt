@@ -23,9 +23,9 @@ abbrev pub joined : ℕ → ℕ → ℕ
 joined upper lower = bits3-0 upper * 16 + bits3-0 lower
 
 -- the kinds: a write is of an instruction (register 0) or of data (1)
-abbrev pub written : Bool → ℕ → Transfer
-written false byte = Instruct byte
-written true byte = Write byte
+abbrev pub writing : Bool → ℕ → Transfer
+writing false byte = Instruct byte
+writing true byte = Write byte
 
 -- a read is of the status (register 0) or of data (1)
 abbrev pub reading : Bool → Transfer
@@ -40,7 +40,7 @@ kept register upper = Kept (Upper register upper)
 unfoldable pub writeHalf : Pairing → Bool → ℕ → Half
 writeHalf Empty register value = kept register (bits7-4 value)
 writeHalf (Upper was upper) register value =
-    if Bool·beq was register then Acts (written register (joined upper (bits7-4 value))) else kept register (bits7-4 value)
+    if Bool·beq was register then Acts (writing register (joined upper (bits7-4 value))) else kept register (bits7-4 value)
 writeHalf (Lower was lower) register value = kept register (bits7-4 value)
 
 -- a read acts at its first; its second half only hands over the low four bits of the same answer

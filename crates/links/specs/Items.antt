@@ -5,7 +5,7 @@ use mathlib.Core.Bool.{Bool, false}
 use mathlib.Core.List.{List, [], _∷_, _++_, map}
 use Rattle.base.specs.Bits.{bit, bits3-0}
 use Rattle.links.specs.declared.Transfer.{Transfer}
-use Rattle.links.specs.Halves.{bits7-4, raised, written}
+use Rattle.links.specs.Halves.{bits7-4, raised, writing}
 use Rattle.links.specs.Sender.{threeBytes}
 
 -- a byte written to a register
@@ -26,7 +26,7 @@ Items E = List (Turn WholeWrite E)
 -- over bytes: one transfer, one byte
 unfoldable pub asBytes : {E : Type 0} → Items E → List (Turn Transfer E)
 asBytes [] = []
-asBytes (comes w ∷ items) = comes (written (w .register) (w .byte)) ∷ asBytes items
+asBytes (comes w ∷ items) = comes (writing (w .register) (w .byte)) ∷ asBytes items
 asBytes (happens e ∷ items) = happens e ∷ asBytes items
 
 -- a half byte in bits 7..4, above four bits that do not count
@@ -37,8 +37,8 @@ above half low = raised half + bits3-0 low
 unfoldable pub asHalves : {E : Type 0} → (ℕ → ℕ) → Items E → List (Turn Transfer E)
 asHalves low [] = []
 asHalves low (comes w ∷ items) =
-    comes (written (w .register) (above (bits7-4 (w .byte)) (low 0)))
-    ∷ comes (written (w .register) (above (bits3-0 (w .byte)) (low 1)))
+    comes (writing (w .register) (above (bits7-4 (w .byte)) (low 0)))
+    ∷ comes (writing (w .register) (above (bits3-0 (w .byte)) (low 1)))
     ∷ asHalves (λ k. low (k + 2)) items
 asHalves low (happens e ∷ items) = happens e ∷ asHalves low items
 

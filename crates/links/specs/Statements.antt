@@ -15,7 +15,7 @@ use Rattle.links.specs.declared.Receiver.{Receiver}
 use Rattle.links.specs.declared.Receiver.the-variants.{Outside}
 use Rattle.links.specs.declared.Received.{Received}
 use Rattle.links.specs.declared.Received.the-variants.{Nothing, Byte}
-use Rattle.links.specs.Halves.{bits7-4, joined, written, reading, paired}
+use Rattle.links.specs.Halves.{bits7-4, joined, writing, reading, paired}
 use Rattle.links.specs.Serial.{listened, bytesIn}
 use Rattle.links.specs.Sender.{threeBytes, sent}
 use Rattle.links.specs.Items.{Items, above, bitsOf, SameButBit4, Alike}
@@ -92,8 +92,8 @@ module _ {S E : Type 0} (on : Controller S E) where
 abbrev pub SecondHalfActs : Type 0
 SecondHalfActs =
     (register : Bool) (byte : ℕ) → byte < 256 → (low other : ℕ) →
-    (paired Empty (written register (above (bits7-4 byte) low)) ≡ Kept (Upper register (bits7-4 byte)))
-    × (paired (Upper register (bits7-4 byte)) (written register (above (bits3-0 byte) other)) ≡ Acts (written register byte))
+    (paired Empty (writing register (above (bits7-4 byte) low)) ≡ Kept (Upper register (bits7-4 byte)))
+    × (paired (Upper register (bits7-4 byte)) (writing register (above (bits3-0 byte) other)) ≡ Acts (writing register byte))
 
 -- 6. Of a write's 24 serial bits exactly the last completes a byte, the one sent. So it is wherever the receiver stands
 -- outside a header with no run of ones; afterwards it stands so again, with no bit seen.

@@ -3,7 +3,7 @@ use crate::Half;
 use crate::Pairing;
 use crate::Transfer;
 ghost use mathlib.Core.Path.{_≡_};
-ghost use Rattle.links.specs.Halves.{raised, joined, written, reading, kept, writeHalf, readHalf, paired};
+ghost use Rattle.links.specs.Halves.{raised, joined, writing, reading, kept, writeHalf, readHalf, paired};
 ghost use Rattle.links.specs.Halves.{firstReply, pairingAfter};
 
 // One half-byte transfer, after what is open. Of a write only bits 7..4 count.
@@ -29,7 +29,7 @@ fn write_half(pairing: Pairing, register: bool, value: u8) -> Half
             upper,
         } => {
             if was == register {
-                return Half::Acts(written(register, joined(upper, value / 16)));
+                return Half::Acts(writing(register, joined(upper, value / 16)));
             }
             kept(register, value / 16)
         }
@@ -69,8 +69,8 @@ fn kept(register: bool, upper: u8) -> Half
 }
 
 // The transfer that writes a byte to a register.
-pub fn written(register: bool, byte: u8) -> Transfer
-    ensures { λ r. ⌜ r ≡ written register byte ⌝ }
+pub fn writing(register: bool, byte: u8) -> Transfer
+    ensures { λ r. ⌜ r ≡ writing register byte ⌝ }
 {
     if register {
         return Transfer::Write(byte);

@@ -8,7 +8,7 @@ mod serial;
 pub use halves::first_reply;
 pub use halves::pair;
 pub use halves::pairing_after;
-pub use halves::written;
+pub use halves::writing;
 pub use sender::send;
 pub use serial::hear;
 pub use serial::idle_receiver;

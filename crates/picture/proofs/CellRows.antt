@@ -21,7 +21,7 @@ use Rattle.controller.specs.Memories.{Memories}
 use Rattle.controller.specs.Glass.{placeOf}
 use Rattle.picture.specs.Picture.{Seen, right, byteAt, atPlace, picture, inCellRow, cellPair}
 use Rattle.picture.specs.declared.Strip.{Strip}
-use Rattle.picture.specs.Strip.{stripAt, stripByte, stripPair, stored}
+use Rattle.picture.specs.Strip.{stripAt, stripByte, stripPair, pairStored}
 use Rattle.picture.proofs.Strips.{strip-byte}
 
 -- the place of a row and a column stands at that row and column
@@ -63,7 +63,7 @@ module _ (row cell : ℕ) (cells : cell < 16) where
 
 -- the picture's two bytes stored at their places
 pub cell-row-painted : (e : Seen) (m : Memories) (c : Control) (row cell : ℕ) (f : List ℕ) → row < 32 → cell < 16 → length f ≡ 1024
-    → stored f (placeOf row (2 * cell)) (cellPair e m c row cell)
+    → pairStored f (placeOf row (2 * cell)) (cellPair e m c row cell)
     ≡ painted (atPlace (inCellRow row cell)) (atPlace (byteAt e m c)) f
 cell-row-painted e m c row cell f rows cells size =
     let left : atPlace (byteAt e m c) (placeOf row (2 * cell)) ≡ byteAt e m c row (2 * cell) = at-place (byteAt e m c) row (2 * cell) (omega arith) in
@@ -78,7 +78,7 @@ abbrev pub stripPlace : List ℕ → List ℕ → Memories → Strip → ℕ →
 stripPlace halves fulls m s i = stripByte halves fulls m s (i % 32 / 2) (right (i % 32))
 
 module _ (halves fulls : List ℕ) (m : Memories) (s : Strip) (row cell : ℕ) (f : List ℕ) (rows : row < 32) (cells : cell < 16) (size : length f ≡ 1024) where
-  pair-stored : stored f (placeOf row (2 * cell)) (stripPair halves fulls m s cell)
+  pair-stored : pairStored f (placeOf row (2 * cell)) (stripPair halves fulls m s cell)
       ≡ painted (λ i. eqb i (placeOf row (2 * cell)) || eqb i (placeOf row (2 * cell) + 1)) (stripPlace halves fulls m s) f
   unfolding stripPair
   pair-stored = rw (left, right-one) (pair-painted (placeOf row (2 * cell)) (stripPlace halves fulls m s) f (omega arith))
@@ -90,7 +90,7 @@ module _ (halves fulls : List ℕ) (m : Memories) (s : Strip) (row cell : ℕ) (
       right-one = ap₂ (stripByte halves fulls m s) (omega arith) (sym (eq-eqb ((32 * row + 2 * cell + 1) % 32 % 2) 1 (omega arith)))
 
   -- as one turn of a loop that paints every place of the strip
-  cell-row-turn : stored f (placeOf row (2 * cell)) (stripPair halves fulls m s cell)
+  cell-row-turn : pairStored f (placeOf row (2 * cell)) (stripPair halves fulls m s cell)
       ≡ painted (between (placeOf row (2 * cell)) (placeOf row (2 * cell) + 2) everywhere) (stripPlace halves fulls m s) f
   cell-row-turn = pair-stored ∙ sym (painted-same _ _ (stripPlace halves fulls m s) f (λ i l. turn-pair everywhere (placeOf row (2 * cell)) refl refl i))
 
@@ -100,7 +100,7 @@ strip-begins row b f = rw (add-zero (32 * row)) (paint-begin everywhere b f (32 
 
 pub strip-turns : (halves fulls : List ℕ) (m : Memories) (s : Strip) (row cell : ℕ) (f g h : List ℕ) → row < 32 → cell < 16 → length g ≡ 1024
     → g ≡ painted (between (32 * row) (32 * row + 2 * cell) everywhere) (stripPlace halves fulls m s) f
-    → h ≡ stored g (placeOf row (2 * cell)) (stripPair halves fulls m s cell)
+    → h ≡ pairStored g (placeOf row (2 * cell)) (stripPair halves fulls m s cell)
     → h ≡ painted (between (32 * row) (32 * row + 2 * (cell + 1)) everywhere) (stripPlace halves fulls m s) f
 strip-turns halves fulls m s row cell f g h rows cells size c e =
     let next : 32 * row + 2 * (cell + 1) ≡ 32 * row + 2 * cell + 2 = omega arith in

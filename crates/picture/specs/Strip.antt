@@ -57,8 +57,8 @@ unfoldable pub stripPair : List ℕ → List ℕ → Memories → Strip → ℕ 
 stripPair halves fulls m s cell = both (stripByte halves fulls m s cell)
 
 -- the two bytes stored at a place of a frame and at the next
-abbrev pub stored : List ℕ → ℕ → Pair → List ℕ
-stored frame place pair = set (set frame place (pair .left)) (place + 1) (pair .right)
+abbrev pub pairStored : List ℕ → ℕ → Pair → List ℕ
+pairStored frame place pair = set (set frame place (pair .left)) (place + 1) (pair .right)
 
 -- a strip whose words, glyph row and graphic row are there
 pub record OnGlass (s : Strip) : Type 0 where

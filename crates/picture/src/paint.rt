@@ -11,12 +11,12 @@ ghost use Rattle.base.specs.Painting.{painted, everywhere, between};
 ghost use Rattle.controller.specs.Memories.{before};
 ghost use Rattle.controller.specs.Glass.{placeOf};
 ghost use Rattle.picture.specs.Picture.{seen, byteAt, atPlace, cellPair, picture};
-ghost use Rattle.picture.specs.Strip.{stripPair, stored, OnGlass};
+ghost use Rattle.picture.specs.Strip.{stripPair, pairStored, OnGlass};
 
 // The row painter: it is lent the two bytes of one row of a cell, and nothing else.
 pub fn paint_row(part: &mut [u8], pair: Pair)
     requires { ⌜ length (now part) ≡ 2 ⌝ }
-    ensures { λ _. ⌜ now (part .exit) ≡ stored (now (part .entry)) 0 pair ⌝ }
+    ensures { λ _. ⌜ now (part .exit) ≡ pairStored (now (part .entry)) 0 pair ⌝ }
 {
     part[0] = pair.left;
     part[1] = pair.right;
@@ -35,7 +35,7 @@ fn paint_in_strip(
     full: &[u8],
 )
     requires { ⌜ OnGlass strip × (row < 32) × (cell < 16) × (length (now frame) ≡ 1024) × (length (now half) ≡ 2048) ⌝ }
-    ensures { λ _. ⌜ now (frame .exit) ≡ stored (now (frame .entry)) (placeOf row (2 * cell)) (stripPair (now (half .entry)) (now (full .entry)) (before text glyph graphic) strip cell) ⌝ }
+    ensures { λ _. ⌜ now (frame .exit) ≡ pairStored (now (frame .entry)) (placeOf row (2 * cell)) (stripPair (now (half .entry)) (now (full .entry)) (before text glyph graphic) strip cell) ⌝ }
 {
     let pair = cell_row(text, glyph, graphic, strip, cell, half, full);
     let start = 32 * row + 2 * cell;

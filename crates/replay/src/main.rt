@@ -1,11 +1,15 @@
 // Replays a capture from standard input, and prints a line for each accepted record and one for the end.
-// What is read and written is no matter of a contract; the lines are those of `transcript`.
+// What is read and written is no matter of a contract; the lines are those of `transcript`. What fails is said on standard
+// error, where it fails, and is never taken for the end of the capture.
+use libc::STDERR_FILENO;
 use libc::STDIN_FILENO;
 use libc::STDOUT_FILENO;
 use panel::Made;
 use panel::Panel;
 use transcript::Told;
-ghost use Prim.Native.Nat.{_+_, _≤_, _<_, _^_};
+ghost use Prim.Native.Nat.{_+_, _/_, _≤_};
+ghost use mathlib.Core.Bool.{true};
+ghost use mathlib.Core.Path.{_≡_};
 ghost use lib.ListN.{length};
 ghost use Rattle.lent.specs.State.{Valid};
 ghost use Rattle.panel.specs.Handed.{stateOf};
@@ -17,10 +21,10 @@ struct Filled {
     failed: bool,
 }
 
-// How far a part came, whether the capture goes on, and whether reading or writing failed.
+// How far the replay came with a part, how many bytes the part had, and whether reading it or writing its lines failed.
 struct Came {
     told: Told,
-    more: bool,
+    bytes: usize,
     unread: bool,
     unwritten: bool,
 }
@@ -39,18 +43,26 @@ fn read_some(buffer: &mut [u8], from: usize) -> Filled
     }
 }
 
-// Reads until the buffer is full, the input ends or a read fails.
+// Reads until the buffer is full, the input ends or a read fails. A record that a failed read cut short is left out: the
+// capture does not end there.
 fn fill(buffer: &mut [u8]) -> Filled
     ensures { λ r. ⌜ Counts (r .count) (now (buffer .exit)) ⌝ }
 {
     let mut done: usize = 0;
     while done < buffer.len() {
         let some = read_some(buffer, done);
+        if some.failed {
+            os::fail(b"replay: standard input");
+            return Filled {
+                count: done - done % 4,
+                failed: true,
+            };
+        }
         let n = some.count;
         if n == 0 {
             return Filled {
                 count: done,
-                failed: some.failed,
+                failed: false,
             };
         }
         done += n;
@@ -61,9 +73,19 @@ fn fill(buffer: &mut [u8]) -> Filled
     }
 }
 
-// One part of the capture: 4,096 bytes, so that no record lies across two parts, or what is left. Its lines fit into 65,536 bytes.
+// Writes a text to standard output, and answers whether that was done.
+fn print(text: &[u8]) -> bool {
+    let written = io::write_all(STDOUT_FILENO, text);
+    if !written {
+        os::fail(b"replay: standard output");
+    }
+    written
+}
+
+// One part of the capture: 4,096 bytes, so that no record lies across two parts, or what is left. Its lines, of at most 29
+// bytes each, fit into 65,536 bytes.
 fn part(panel: Panel, place: usize, frame: &mut [u8; 1024]) -> Came
-    requires { ⌜ Valid (stateOf panel) × (place < 2 ^ 63) ⌝ }
+    requires { ⌜ Valid (stateOf panel) ⌝ }
     ensures { λ r. ⌜ Valid (stateOf (r .told .panel)) ⌝ }
 {
     let half = [0u8; 2048];
@@ -84,50 +106,59 @@ fn part(panel: Panel, place: usize, frame: &mut [u8; 1024]) -> Came
         &mut text,
     );
     let length = told.filled;
-    let number = told.number;
-    let written = io::write_all(STDOUT_FILENO, &text[..length]);
+    let written = print(&text[..length]);
     Came {
         told,
-        more: n == 4096 && number == 0,
+        bytes: n,
         unread,
         unwritten: !written,
     }
 }
 
-// The last line; answers whether it was written.
-fn last(place: usize, number: u8) -> bool {
+// The last line.
+fn print_last(place: usize, number: u8) {
     let mut text = [0u8; 48];
     let n = transcript::put_last(&mut text, place, number);
-    io::write_all(STDOUT_FILENO, &text[..n])
+    print(&text[..n]);
 }
 
+// Whether all records that so many bytes hold were accepted.
+fn all_taken(before: usize, after: usize, bytes: usize) -> bool
+    ensures { λ r. ⌜ (r ≡ true → after ≡ before + bytes / 4) ⌝ }
+{
+    if after < before {
+        return false;
+    }
+    after - before == bytes / 4
+}
+
+// Part after part. A refusal stops the replay also where the read after it failed.
 fn main() {
     let mut frame = [0u8; 1024];
     let mut panel = Panel::fresh(Made { parallel: true });
     let mut place: usize = 0;
-    let mut turns = u64::MAX;
-    while turns > 0 {
-        if place >= 9223372036854775807 {
-            return;
-        }
+    loop {
         let came = part(panel, place, &mut frame);
-        let stop = came.told;
+        let told = came.told;
         if came.unwritten {
-            os::fail(b"write");
             return;
         }
-        if came.unread && stop.number == 0 {
-            os::fail(b"read");
+        if told.number != 0 {
+            print_last(told.place, told.number);
             return;
         }
-        if !came.more {
-            if !last(stop.place, stop.number) {
-                os::fail(b"write");
-            }
+        if came.unread {
             return;
         }
-        panel = stop.panel;
-        place = stop.place;
-        turns -= 1;
+        if !all_taken(place, told.place, came.bytes) {
+            io::write_all(STDERR_FILENO, b"replay: too many records\n");
+            return;
+        }
+        if came.bytes < 4096 {
+            print_last(told.place, 0);
+            return;
+        }
+        panel = told.panel;
+        place = told.place;
     }
 }

@@ -18,7 +18,7 @@ use Rattle.picture.specs.Picture.{Seen}
 use Rattle.lent.specs.State.{state}
 use Rattle.lent.specs.Calls.{Call, Stands, after}
 use Rattle.sequences.specs.Wires.{callsOf, onward, spelt, idleOn, resting, syncAfter, Fits, answers, numbersOf, countsOf, countsByWrite, sum}
-use Rattle.sequences.specs.Wires.{callsBefore, lastAlone, Board, begun, items, board, given, onLink, standing, withDl}
+use Rattle.sequences.specs.Wires.{callsBefore, lastAlone, Board, boardOf, items, board, given, onLink, standing, withDl}
 use Rattle.sequences.specs.Agreement.{ReceivedAsGiven, SentIsReceived, WritesAreReceived, LinksAgree}
 use Rattle.sequences.proofs.Sequences.{after-append, numbers-append, zeros-append}
 use Rattle.sequences.proofs.ButDl.{boardButDl, board-respects}
@@ -136,10 +136,10 @@ idle-rests serial = refl
 rested-received :
     (e : Seen) (way : Way) (m : Memories) (c : Control) (frame : List ℕ) (writes : List WholeWrite)
     → Fits e frame
-    → KeepsDl (board e) way (begun (state m c (resting way Lost)) frame) (items writes)
+    → KeepsDl (board e) way (boardOf (state m c (resting way Lost)) frame) (items writes)
     → ReceivedAsGiven e way (state m c (resting way Lost)) frame writes
 rested-received e way m c frame writes h d =
-    let b = begun (state m c (resting way Lost)) frame in
+    let b = boardOf (state m c (resting way Lost)) frame in
     let o = writes-arrive e writes way b Lost h d in
     let counts = sym (each-kept e writes b) in
     record {
@@ -161,9 +161,9 @@ pub links-agree : LinksAgree
 links-agree e way other s t frame writes others h l k same alike d f =
     let one = writes-are-received e way s frame writes h l d in
     let two = writes-are-received e other t frame others h k f in
-    let start : boardButDl (begun s frame) ≡ boardButDl (begun t frame) = cc (same .memories, same .controls) in
+    let start : boardButDl (boardOf s frame) ≡ boardButDl (boardOf t frame) = cc (same .memories, same .controls) in
     let end : boardButDl (given e s frame writes) ≡ boardButDl (given e t frame others) =
-    alike-does (board e) (λ a b. boardButDl a ≡ boardButDl b) (board-respects e) alike (begun s frame) (begun t frame) start in
+    alike-does (board e) (λ a b. boardButDl a ≡ boardButDl b) (board-respects e) alike (boardOf s frame) (boardOf t frame) start in
     record {
       states = record {
         memories =

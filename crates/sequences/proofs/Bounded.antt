@@ -123,7 +123,7 @@ received-carried :
     → countOf (receivedActs m c r) ≡ countOf (carriedOut m c t)
 received-carried m c received.Nothing t e = absurd (let z : _≡_ {A = ℕ} 0 1 = cc in omega arith)
 received-carried m c (received.Byte register byte) t e =
-    let q : halves.written register byte ≡ t = cc in ap (λ (x : Transfer). countOf (carriedOut m c x)) q
+    let q : halves.writing register byte ≡ t = cc in ap (λ (x : Transfer). countOf (carriedOut m c x)) q
 
 none-carried : {P : Type 0} (t : Transfer) → nothing ≡ whole t → P
 none-carried t e = absurd (let z : _≡_ {A = ℕ} 0 1 = cc in omega arith)

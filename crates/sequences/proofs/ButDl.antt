@@ -104,7 +104,7 @@ function-sets-but-dl m c b d p q r s e =
     (function-set-but-dl m c (bit 4 b) (bit 4 d) (bit 2 d) (bit 1 d))
 
 pub carriedOut-but-dl : (m : Memories) (c : Control) {register : Bool} {b d : ℕ} → SameButBit4 register b d →
-    actedButDl (carriedOut m c (halves.written register b)) ≡ actedButDl (carriedOut m (withDl true c) (halves.written register d))
+    actedButDl (carriedOut m c (halves.writing register b)) ≡ actedButDl (carriedOut m (withDl true c) (halves.writing register d))
 unfolding carriedOut executed written movedOn writeNames
 carriedOut-but-dl m c (same {register = false} {b = b}) = obeyed-but-dl m c (said (modes c) b)
 carriedOut-but-dl m c (same {register = true} {b = b}) = refl
@@ -120,9 +120,9 @@ module _ (e : Seen) where
   act-but-dl : (s : Board) {register : Bool} {b d : ℕ} → SameButBit4 register b d →
       boardButDl (act (board e) s register b) ≡ boardButDl (act (board e) (boardButDl s) register d)
   act-but-dl s {register} {b} {d} q =
-      boardAfter-but-dl e s (carriedOut (s .memories) (s .control) (halves.written register b))
+      boardAfter-but-dl e s (carriedOut (s .memories) (s .control) (halves.writing register b))
       ∙ ap (λ (a : Acted). boardButDl (boardAfter e s a)) (carriedOut-but-dl (s .memories) (s .control) q)
-      ∙ sym (boardAfter-but-dl e s (carriedOut (s .memories) (withDl true (s .control)) (halves.written register d)))
+      ∙ sym (boardAfter-but-dl e s (carriedOut (s .memories) (withDl true (s .control)) (halves.writing register d)))
 
   pub board-respects : Respected (board e) (λ s t. boardButDl s ≡ boardButDl t)
   board-respects = record {

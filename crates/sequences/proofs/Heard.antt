@@ -26,7 +26,7 @@ use Rattle.links.specs.declared.Receiver.{Receiver}
 use Rattle.links.specs.declared.Receiver.the-variants.{Outside}
 use Rattle.links.specs.declared.Received.{Received}
 use Rattle.links.specs.declared.Received.the-variants.{Nothing, Byte}
-use Rattle.links.specs.Halves.{bits7-4, written, paired, firstReply}
+use Rattle.links.specs.Halves.{bits7-4, writing, paired, firstReply}
 use Rattle.links.specs.Serial.{heard, Listened, listened}
 use Rattle.links.specs.Sender.{threeBytes}
 use Rattle.links.specs.Items.{WholeWrite, above, bitsOf}
@@ -115,7 +115,7 @@ module _ (e : Seen) (b : Board) where
 
   -- the count of a write carried out
   abbrev pub countWritten : Bool → ℕ → ℕ
-  countWritten register byte = countOf (carriedOut (b .memories) (b .control) (written register byte))
+  countWritten register byte = countOf (carriedOut (b .memories) (b .control) (writing register byte))
 
   pub act-fits : (register : Bool) (byte : ℕ) → Fits e (b .frame) → Fits e (act (board e) b register byte .frame)
   act-fits register byte h = rw (repainted-length e _ _ _ (b .frame)) h
@@ -125,24 +125,24 @@ module _ (e : Seen) (b : Board) where
     byte-called :
         (register : Bool) (byte : ℕ)
         → b .control .function .dl ≡ true
-        → called e (onLink b (Parallel Empty)) (b .frame) (transfer (written register byte))
+        → called e (onLink b (Parallel Empty)) (b .frame) (transfer (writing register byte))
         ≡ answered (act (board e) b register byte) (Parallel Empty)
-        (carriedOut (b .memories) (b .control) (written register byte) .done .reply) (countWritten register byte)
+        (carriedOut (b .memories) (b .control) (writing register byte) .done .reply) (countWritten register byte)
     unfolding takenBy
     byte-called register byte d =
         accepts e _ (b .frame) _ fits
-        ∙ ap (accepted e (b .frame)) (whole-step (b .memories) (b .control) Empty (written register byte) d)
+        ∙ ap (accepted e (b .frame)) (whole-step (b .memories) (b .control) Empty (writing register byte) d)
 
     -- DL = 0: its first half is kept
     first-called :
         (w : WholeWrite) (low : ℕ)
         → b .control .function .dl ≡ false
-        → called e (onLink b (Parallel Empty)) (b .frame) (transfer (written (w .register) (above (bits7-4 (w .byte)) low)))
+        → called e (onLink b (Parallel Empty)) (b .frame) (transfer (writing (w .register) (above (bits7-4 (w .byte)) low)))
         ≡ answered b (Parallel (Upper (w .register) (bits7-4 (w .byte)))) 0 0
     unfolding takenBy
     first-called w low d =
         accepts e _ (b .frame) _ fits
-        ∙ ap (accepted e (b .frame)) (half-step (b .memories) (b .control) Empty (written (w .register) (above (bits7-4 (w .byte)) low)) d)
+        ∙ ap (accepted e (b .frame)) (half-step (b .memories) (b .control) Empty (writing (w .register) (above (bits7-4 (w .byte)) low)) d)
         ∙ ap (λ (h : Half). accepted e (b .frame) (halfStep (b .memories) (b .control) h))
         (second-half-acts (w .register) (w .byte) (w .small) low 0 .0)
         ∙ none-carried 0 _
@@ -150,23 +150,23 @@ module _ (e : Seen) (b : Board) where
     -- and its second half carries it out
     acts-closes :
         (register : Bool) (byte : ℕ)
-        → accepted e (b .frame) (halfStep (b .memories) (b .control) (Acts (written register byte)))
+        → accepted e (b .frame) (halfStep (b .memories) (b .control) (Acts (writing register byte)))
         ≡ answered (act (board e) b register byte) (Parallel Empty)
-        (firstReply (carriedOut (b .memories) (b .control) (written register byte) .done .reply)) (countWritten register byte)
+        (firstReply (carriedOut (b .memories) (b .control) (writing register byte) .done .reply)) (countWritten register byte)
     acts-closes false byte = refl
     acts-closes true byte = refl
 
     second-called :
         (w : WholeWrite) (low : ℕ)
         → b .control .function .dl ≡ false
-        → called e (onLink b (Parallel (Upper (w .register) (bits7-4 (w .byte))))) (b .frame) (transfer (written (w .register) (above (bits3-0 (w .byte)) low)))
+        → called e (onLink b (Parallel (Upper (w .register) (bits7-4 (w .byte))))) (b .frame) (transfer (writing (w .register) (above (bits3-0 (w .byte)) low)))
         ≡ answered (act (board e) b (w .register) (w .byte)) (Parallel Empty)
-        (firstReply (carriedOut (b .memories) (b .control) (written (w .register) (w .byte)) .done .reply))
+        (firstReply (carriedOut (b .memories) (b .control) (writing (w .register) (w .byte)) .done .reply))
         (countWritten (w .register) (w .byte))
     unfolding takenBy
     second-called w low d =
         accepts e _ (b .frame) _ fits
-        ∙ ap (accepted e (b .frame)) (half-step (b .memories) (b .control) (Upper (w .register) (bits7-4 (w .byte))) (written (w .register) (above (bits3-0 (w .byte)) low)) d)
+        ∙ ap (accepted e (b .frame)) (half-step (b .memories) (b .control) (Upper (w .register) (bits7-4 (w .byte))) (writing (w .register) (above (bits3-0 (w .byte)) low)) d)
         ∙ ap (λ (h : Half). accepted e (b .frame) (halfStep (b .memories) (b .control) h))
         (second-half-acts (w .register) (w .byte) (w .small) 0 low .1)
         ∙ acts-closes (w .register) (w .byte)

@@ -25,7 +25,7 @@ use Rattle.links.specs.Items.{WholeWrite}
 use Rattle.links.specs.Connector.{act, bytes, halves, serial, HasDl}
 use Rattle.picture.specs.Picture.{Seen}
 use Rattle.steps.specs.Steps.{carriedOut}
-use Rattle.sequences.specs.Wires.{Board, begun, items, board, SetsDl}
+use Rattle.sequences.specs.Wires.{Board, boardOf, items, board, SetsDl}
 use Rattle.sequences.specs.Agreement.{FunctionSetsKeepDl}
 
 -- an instruction that is a function set has this DL
@@ -113,7 +113,7 @@ module _ (dl : Bool) where
       (m : Memories) (c : Control) (register : Bool) (b : ℕ)
       → c .function .dl ≡ dl
       → (register ≡ false → 0x20 ≤ b → b < 0x40 → bit 4 b ≡ dl)
-      → carriedOut m c (halves.written register b) .done .control .function .dl ≡ dl
+      → carriedOut m c (halves.writing register b) .done .control .function .dl ≡ dl
   unfolding carriedOut executed written movedOn
   write-dl m c false b h k = obeyed-dl c (said (modes c) b) h (said-has (modes c) b (k refl))
   write-dl m c true b h k = h
@@ -128,6 +128,6 @@ module _ (dl : Bool) where
   )
 
 pub function-sets-keep-dl : FunctionSetsKeepDl
-function-sets-keep-dl e bytes s frame writes h k = writes-dl true e writes (begun s frame) h k
-function-sets-keep-dl e (halves low) s frame writes h k = writes-dl false e writes (begun s frame) h k
+function-sets-keep-dl e bytes s frame writes h k = writes-dl true e writes (boardOf s frame) h k
+function-sets-keep-dl e (halves low) s frame writes h k = writes-dl false e writes (boardOf s frame) h k
 function-sets-keep-dl e serial s frame writes h k = tt

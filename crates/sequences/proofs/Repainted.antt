@@ -66,7 +66,7 @@ module _ (e : Seen) (m : Memories) (c : Control) (r : InRange c) where
   received-unnamed : (x : Received) → UnnamedKept e m c (receivedActs m c x)
   received-unnamed received.Nothing row column h u = refl
   received-unnamed (received.Byte register byte) row column h u =
-      carriedOut-unnamed (halves.written register byte) row column h u
+      carriedOut-unnamed (halves.writing register byte) row column h u
 
   reset-unnamed : (parallel : Bool) → UnnamedKept e m c (resetStep parallel .acted)
   unfolding resetStep

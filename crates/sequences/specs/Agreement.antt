@@ -17,7 +17,7 @@ use Rattle.picture.specs.Picture.{Seen}
 use Rattle.lent.specs.State.{State}
 use Rattle.lent.specs.Calls.{Call, transfer, bit, Called, called, after}
 use Rattle.sequences.specs.Wires.{spelt, idleOn, resting, syncAfter, Fits, numbersOf, countsByWrite, sum, callsBefore, lastAlone}
-use Rattle.sequences.specs.Wires.{Board, begun, items, board, given, onLink, standing, withDl, HasWidth, SetsWidth}
+use Rattle.sequences.specs.Wires.{Board, boardOf, items, board, given, onLink, standing, withDl, HasWidth, SetsWidth}
 
 -- an accepted call leaves this board on this link, and answers with this reply
 pub record Does (k : Called) (b : Board) (link : Link) (answer : ℕ) : Type 0 where
@@ -68,7 +68,7 @@ WritesAreReceived =
     (e : Seen) (way : Way) (s : State) (frame : List ℕ) (writes : List WholeWrite)
     → Fits e frame
     → s .link ≡ idleOn way
-    → KeepsDl (board e) way (begun s frame) (items writes)
+    → KeepsDl (board e) way (boardOf s frame) (items writes)
     → ReceivedAsGiven e way s frame writes
 
 -- equal apart from link and DL
@@ -95,8 +95,8 @@ LinksAgree =
     → t .link ≡ idleOn other
     → SameButLinkAndDl s t
     → Alike (items writes) (items others)
-    → KeepsDl (board e) way (begun s frame) (items writes)
-    → KeepsDl (board e) other (begun t frame) (items others)
+    → KeepsDl (board e) way (boardOf s frame) (items writes)
+    → KeepsDl (board e) other (boardOf t frame) (items others)
     → Agree e s t frame (spelt way writes) (spelt other others)
 
 -- 3. A list keeps the link's DL where the panel begins with it and bit 4 of every function set is that DL.
@@ -105,4 +105,4 @@ FunctionSetsKeepDl =
     (e : Seen) (way : Way) (s : State) (frame : List ℕ) (writes : List WholeWrite)
     → HasWidth way (s .control)
     → SetsWidth way writes
-    → KeepsDl (board e) way (begun s frame) (items writes)
+    → KeepsDl (board e) way (boardOf s frame) (items writes)

@@ -10,7 +10,7 @@ use Rattle.links.specs.declared.Half.{Half}
 use Rattle.links.specs.declared.Half.the-variants.{Kept, Acts, Answers}
 use Rattle.links.specs.declared.Received.{Received}
 use Rattle.links.specs.declared.Received.the-variants as received
-use Rattle.links.specs.Halves.{paired, written}
+use Rattle.links.specs.Halves.{paired, writing}
 use Rattle.links.specs.Serial.{heard}
 use Rattle.lent.specs.Calls.{Call, transfer, bit, selectLow, reset}
 
@@ -27,7 +27,7 @@ halfCarries (Answers reply) = nothing
 -- serial: a byte acts on the bit that completes it
 abbrev pub receivedCarries : Received → Carried
 receivedCarries received.Nothing = nothing
-receivedCarries (received.Byte register byte) = whole (written register byte)
+receivedCarries (received.Byte register byte) = whole (writing register byte)
 
 -- parallel: by DL the byte or what the half byte comes to; a call of the other link, select-low and reset carry out no transfer
 unfoldable pub carries : Control → Link → Call → Carried

@@ -16,7 +16,7 @@ use Rattle.links.specs.declared.Pairing.the-variants.{Empty}
 use Rattle.links.specs.declared.Sync.{Sync}
 use Rattle.links.specs.declared.Sync.the-variants.{Body}
 use Rattle.links.specs.declared.Receiver.the-variants.{Outside}
-use Rattle.links.specs.Halves.{bits7-4, written}
+use Rattle.links.specs.Halves.{bits7-4, writing}
 use Rattle.links.specs.Idle.{idle}
 use Rattle.links.specs.Sender.{threeBytes}
 use Rattle.links.specs.Items.{WholeWrite, comes, Items, above, bitsOf}
@@ -31,13 +31,13 @@ use Rattle.lent.specs.Calls.{Call, transfer, Called, called, Stands, after}
 
 -- the calls of a write: one transfer of its byte
 abbrev pub byByte : WholeWrite → List Call
-byByte w = transfer (written (w .register) (w .byte)) ∷ []
+byByte w = transfer (writing (w .register) (w .byte)) ∷ []
 
 -- or two transfers, the upper half first, with anything in bits 3..0
 abbrev pub byHalves : ℕ → ℕ → WholeWrite → List Call
 byHalves low other w =
-    transfer (written (w .register) (above (bits7-4 (w .byte)) low))
-    ∷ transfer (written (w .register) (above (bits3-0 (w .byte)) other))
+    transfer (writing (w .register) (above (bits7-4 (w .byte)) low))
+    ∷ transfer (writing (w .register) (above (bits3-0 (w .byte)) other))
     ∷ []
 
 -- or 24 serial bits, those of the sender's three bytes
@@ -122,8 +122,8 @@ pub record Board : Type 0 where
   pub counts : List ℕ
 
 -- before any write
-abbrev pub begun : State → List ℕ → Board
-begun s frame = record { memories = s .memories; control = s .control; frame = frame; counts = [] }
+abbrev pub boardOf : State → List ℕ → Board
+boardOf s frame = record { memories = s .memories; control = s .control; frame = frame; counts = [] }
 
 -- a whole transfer was carried out: the bytes that it names are repainted, and counted
 abbrev pub boardAfter : Seen → Board → Acted → Board
@@ -156,7 +156,7 @@ board e =
 
 -- the bytes themselves, carried out in order
 abbrev pub given : Seen → State → List ℕ → List WholeWrite → Board
-given e s frame writes = does (board e) (begun s frame) (items writes)
+given e s frame writes = does (board e) (boardOf s frame) (items writes)
 
 -- a board on a link
 abbrev pub onLink : Board → Link → State

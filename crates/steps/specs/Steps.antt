@@ -72,7 +72,7 @@ transferStep m c pairing t =
 -- serial, with chip select high: a byte that a bit completes acts
 abbrev pub receivedActs : Memories → Control → Received → Acted
 receivedActs m c received.Nothing = unmoved m c 0
-receivedActs m c (received.Byte register byte) = carriedOut m c (halves.written register byte)
+receivedActs m c (received.Byte register byte) = carriedOut m c (halves.writing register byte)
 
 abbrev pub heardStep : Memories → Control → Heard → Stepped
 heardStep m c h = stepped (receivedActs m c (h .received)) (Serial (h .receiver))

@@ -131,7 +131,7 @@ fn received_acts(
     match received {
         Received::Nothing => unmoved(control, 0),
         Received::Byte { register, byte } => {
-            let transfer = links::written(register, byte);
+            let transfer = links::writing(register, byte);
             carry_out(text, glyph, graphic, control, transfer)
         }
     }

@@ -1,14 +1,11 @@
 -- What holds at each turn of the loop over a value's bits: what is left to hear, with the count so far, is the whole.
-use Prim.Native.Nat.{ℕ, suc, _+_, _*_, _-_, _≤_, _<_}
-use mathlib.Core.Bool.{Bool, true, false}
+use Prim.Native.Nat.{ℕ, suc, _+_, _*_, _-_, _≤_}
 use mathlib.Core.List.{List}
 use mathlib.Core.Path.{_≡_, refl, sym, ap, _∙_}
 use native.Mathlib.Nat.{add-assoc, add-zero}
 use native.Mathlib.Omega.{arith}
 use borrow.Author.Tests.{eq-eqb, ne-eqb}
-use lib.Dec.{eqb}
 use lib.ListN.{length}
-use Rattle.base.specs.Choice.{if_then_else_}
 use Rattle.base.specs.Bits as bits
 use Rattle.picture.specs.Picture.{Seen}
 use Rattle.lent.specs.State.{State, Valid}

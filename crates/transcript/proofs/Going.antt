@@ -8,22 +8,18 @@ use lib.ListN.{length, drop, length-drop}
 use Rattle.picture.specs.Picture.{Seen}
 use Rattle.picture.specs.Refusals.{refusalOf}
 use Rattle.lent.specs.State.{State, Valid}
-use Rattle.lent.specs.Calls.{Called, refused}
-use Rattle.capture.specs.declared.Answer.{Answer}
+use Rattle.lent.specs.Calls.{Called}
 use Rattle.capture.specs.declared.Answer.the-variants.{Record}
 use Rattle.capture.specs.Record.{number}
 use Rattle.capture.specs.Capture.{Contents, contents, answerAt, passed}
 use Rattle.capture.proofs.Answers.{record-within}
 use Rattle.capture.proofs.Contents.{contents-at-record, contents-at-stop}
 use Rattle.transcript.specs.Records.{recorded}
-use Rattle.transcript.specs.Replay.{Answered, Ending, endingAt, Replayed, halted, answered, afterAnswer, obeyed, obeyedAll, replayed, lastOr, unanswered, Stopped, stopped}
-use Rattle.transcript.proofs.Refused.{recorded-unmoved, recorded-length}
+use Rattle.transcript.specs.Replay.{Answered, endingAt, Replayed, halted, answered, afterAnswer, obeyed, obeyedAll, replayed, lastOr, unanswered, Stopped, stopped}
+use Rattle.transcript.specs.Statements.{afterAnswers}
+use Rattle.transcript.proofs.Refused.{recorded-frame, recorded-length}
 
--- answers before those of a replay
-abbrev pub afterAnswers : List Answered → Replayed → Replayed
-afterAnswers before r = record { answers = before ++ r .answers; ending = r .ending }
-
-pub one-more : (before : List Answered) (a : Answered) (r : Replayed) → afterAnswers before (afterAnswer a r) ≡ afterAnswers (before ++ (a ∷ [])) r
+one-more : (before : List Answered) (a : Answered) (r : Replayed) → afterAnswers before (afterAnswer a r) ≡ afterAnswers (before ++ (a ∷ [])) r
 one-more before a r = ap (λ (l : List Answered). record { answers = l; ending = r .ending }) (sym (append-assoc before (a ∷ []) (r .answers)))
 
 -- what the last of some answers was
@@ -47,7 +43,7 @@ stops-after before is l = rw (← is, append-nil, l .0, l .1)
 
 module _ (e : Seen) (c : List ℕ) (s : State) (f : List ℕ) (n at : ℕ) where
   -- an accepted record answers, and the rest is replayed on what it left
-  pub obeyed-record :
+  obeyed-record :
       {kind value : ℕ} (k : Called)
       → answerAt c at ≡ Record kind value
       → k ≡ recorded e kind value s f
@@ -77,120 +73,73 @@ module _ (e : Seen) (c : List ℕ) (s₀ : State) (f₀ : List ℕ) (n₀ : ℕ)
       (m : ℕ)
       → m ≡ refusalOf (length f₀) (length (e .half)) (length (e .full))
       → (m ≡ 0 → ⊥)
-      → halted s₀ f₀ n₀ m ≡ replayed e c s₀ f₀ n₀
-  unfolding replayed
+      → stopAt s₀ f₀ n₀ m 0 0 ≡ stopped (replayed e c s₀ f₀ n₀)
+  unfolding replayed lastOr
   turned-away m is h = rw (← is, ne-eqb m 0 h)
 
-  pub let-in :
-      (m : ℕ)
-      → m ≡ refusalOf (length f₀) (length (e .half)) (length (e .full))
-      → m ≡ 0
-      → obeyedAll e (contents c) s₀ f₀ n₀ ≡ replayed e c s₀ f₀ n₀
-  unfolding replayed
-  let-in m is h = rw (← is, eq-eqb m 0 h)
-
-  pub record Going (s : State) (f : List ℕ) (n at : ℕ) : Type 0 where
+  pub record Going (s : State) (f : List ℕ) (n at reply count : ℕ) : Type 0 where
     pub within : at ≤ length c
     pub placed : n ≤ n₀ + at
     pub valid : Valid s
     pub framed : length f ≡ length f₀
     pub before : List Answered
-    pub same : obeyedAll e (contents c) s₀ f₀ n₀ ≡ afterAnswers before (obeyedAll e (contents (drop at c)) s f n)
+    pub last : Last reply count before
+    pub same : replayed e c s₀ f₀ n₀ ≡ afterAnswers before (obeyedAll e (contents (drop at c)) s f n)
 
-  unfoldable pub begins : Valid s₀ → Going s₀ f₀ n₀ 0
-  begins v = record { within = omega arith; placed = omega arith; valid = v; framed = refl; before = []; same = refl }
+  pub begins :
+      (m : ℕ)
+      → m ≡ refusalOf (length f₀) (length (e .half)) (length (e .full))
+      → m ≡ 0
+      → Valid s₀
+      → Going s₀ f₀ n₀ 0 0 0
+  unfolding replayed lastOr
+  begins m is h v = record {
+    within = omega arith;
+    placed = omega arith;
+    valid = v;
+    framed = refl;
+    before = [];
+    last = (refl, refl);
+    same = rw (← is, eq-eqb m 0 h);
+  }
 
-  module _ {s : State} {f : List ℕ} {n at : ℕ} (g : Going s f n at) where
+  module _ {s : State} {f : List ℕ} {n at reply count : ℕ} (g : Going s f n at reply count) where
     pub long : {kind value : ℕ} → answerAt c at ≡ Record kind value → at + 4 ≤ length c
     long h = omega (arith, record-within (drop at c) h, length-drop at c, g .within)
 
-    unfoldable pub turns :
+    pub turns :
         {kind value : ℕ} (k : Called)
         → answerAt c at ≡ Record kind value
         → k ≡ recorded e kind value s f
         → k .number ≡ 0
         → Valid (k .state)
-        → Going (k .state) (k .frame) (n + 1) (at + 4)
-    turns {kind} {value} k h is z v = record {
-      within = long h;
-      placed = omega (arith, g .placed);
-      valid = v;
-      framed = ap (λ (x : Called). length (x .frame)) is ∙ recorded-length e kind value s f ∙ g .framed;
-      before = g .before ++ (answered kind k ∷ []);
-      same = g .same ∙ ap (afterAnswers (g .before)) (obeyed-record e c s f n at k h is z) ∙ one-more (g .before) (answered kind k) _;
-    }
-
-    -- a record that is refused: the answers so far, and where the replay stands
-    pub refused-here :
-        {kind value : ℕ} (k : Called)
-        → answerAt c at ≡ Record kind value
-        → k ≡ recorded e kind value s f
-        → (k .number ≡ 0 → ⊥)
-        → afterAnswers (g .before) (halted s (k .frame) n (k .number)) ≡ obeyedAll e (contents c) s₀ f₀ n₀
-    refused-here {kind} {value} k h is z =
-        let still : k ≡ refused s f (k .number) = is ∙ recorded-unmoved e kind value s f (λ y. z (ap (λ (x : Called). x .number) is ∙ y)) ∙ ap (λ (x : Called). refused s f (x .number)) (sym is) in
-        ap (λ (x : Called). afterAnswers (g .before) (halted s (x .frame) n (k .number))) still
-        ∙ sym (g .same ∙ ap (afterAnswers (g .before)) (obeyed-refused e c s f n at k h is z))
-
-    -- what is no record
-    pub stopped-here :
-        (m : ℕ)
-        → passed (answerAt c at) ≡ 0
-        → m ≡ number (answerAt c at)
-        → afterAnswers (g .before) (halted s f n m) ≡ obeyedAll e (contents c) s₀ f₀ n₀
-    stopped-here m h is =
-        ap (λ (x : ℕ). afterAnswers (g .before) (halted s f n x)) is
-        ∙ sym (g .same ∙ ap (afterAnswers (g .before)) (obeyed-stop e c s f n at h))
-
-  -- and what the last accepted record answered
-  pub record Replaying (s : State) (f : List ℕ) (n at reply count : ℕ) : Type 0 where
-    pub going : Going s f n at
-    pub last : Last reply count (going .before)
-
-  pub starts : Valid s₀ → Replaying s₀ f₀ n₀ 0 0 0
-  unfolding begins lastOr
-  starts v = record { going = begins v; last = (refl, refl) }
-
-  pub refuses-all :
-      (m : ℕ)
-      → m ≡ refusalOf (length f₀) (length (e .half)) (length (e .full))
-      → (m ≡ 0 → ⊥)
-      → stopAt s₀ f₀ n₀ m 0 0 ≡ stopped (replayed e c s₀ f₀ n₀)
-  unfolding lastOr
-  refuses-all m is h = stops-after [] (turned-away m is h) (refl, refl)
-
-  module _ {s : State} {f : List ℕ} {n at reply count : ℕ} (g : Replaying s f n at reply count) where
-    pub goes-on :
-        {kind value : ℕ} (k : Called)
-        → answerAt c at ≡ Record kind value
-        → k ≡ recorded e kind value s f
-        → k .number ≡ 0
-        → Valid (k .state)
-        → Replaying (k .state) (k .frame) (n + 1) (at + 4) (k .reply) (k .count)
-    unfolding turns
-    goes-on {kind} k h is z v =
-        let more = last-of-more unanswered (g .going .before) (answered kind k) in
+        → Going (k .state) (k .frame) (n + 1) (at + 4) (k .reply) (k .count)
+    turns {kind} {value} k h is z v =
+        let a = answered kind k in
+        let more = last-of-more unanswered (g .before) a in
         record {
-          going = turns (g .going) k h is z v;
-          last = (ap (λ (a : Answered). a .reply) more, ap (λ (a : Answered). a .count) more);
+          within = long h;
+          placed = omega (arith, g .placed);
+          valid = v;
+          framed = ap (λ (x : Called). length (x .frame)) is ∙ recorded-length e kind value s f ∙ g .framed;
+          before = g .before ++ (a ∷ []);
+          last = (ap (λ (x : Answered). x .reply) more, ap (λ (x : Answered). x .count) more);
+          same = g .same ∙ ap (afterAnswers (g .before)) (obeyed-record e c s f n at k h is z) ∙ one-more (g .before) a _;
         }
 
+    -- a record that is refused
     pub refuses :
-        {kind value : ℕ} (k : Called) (m : ℕ)
+        {kind value : ℕ} (k : Called)
         → answerAt c at ≡ Record kind value
         → k ≡ recorded e kind value s f
         → (k .number ≡ 0 → ⊥)
-        → m ≡ refusalOf (length f₀) (length (e .half)) (length (e .full))
-        → m ≡ 0
         → stopAt s (k .frame) n (k .number) reply count ≡ stopped (replayed e c s₀ f₀ n₀)
-    refuses k m h is z mis mz =
-        stops-after (g .going .before) (refused-here (g .going) k h is z ∙ let-in m mis mz) (g .last)
+    refuses {kind} {value} k h is z =
+        ap (λ (x : List ℕ). stopAt s x n (k .number) reply count) (recorded-frame e kind value s f k is z)
+        ∙ stops-after (g .before) (sym (g .same ∙ ap (afterAnswers (g .before)) (obeyed-refused e c s f n at k h is z))) (g .last)
 
-    pub stops :
-        (x m : ℕ)
-        → passed (answerAt c at) ≡ 0
-        → x ≡ number (answerAt c at)
-        → m ≡ refusalOf (length f₀) (length (e .half)) (length (e .full))
-        → m ≡ 0
-        → stopAt s f n x reply count ≡ stopped (replayed e c s₀ f₀ n₀)
-    stops x m h is mis mz = stops-after (g .going .before) (stopped-here (g .going) x h is ∙ let-in m mis mz) (g .last)
+    -- what is no record
+    pub stops : (m : ℕ) → passed (answerAt c at) ≡ 0 → m ≡ number (answerAt c at) → stopAt s f n m reply count ≡ stopped (replayed e c s₀ f₀ n₀)
+    stops m h is =
+        ap (λ (x : ℕ). stopAt s f n x reply count) is
+        ∙ stops-after (g .before) (sym (g .same ∙ ap (afterAnswers (g .before)) (obeyed-stop e c s f n at h))) (g .last)

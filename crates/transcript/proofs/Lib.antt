@@ -1,6 +1,9 @@
 pub mod Refused
+pub mod Once
 pub mod Bits
 pub mod OtherKinds
 pub mod Going
 pub mod Writing
 pub mod Lines
+pub mod Parts
+pub mod Roomy

@@ -1,23 +1,20 @@
 -- Laws of a record: a refused one has no effect, a frame keeps its length, and no count passes that of the frame's bytes.
-use Prim.Native.Nat.{ℕ, zero, suc, _+_, _*_, _≤_}
-use mathlib.Core.Bool.{Bool, true, false}
+use Prim.Native.Nat.{ℕ, zero, suc, _≤_}
 use mathlib.Core.List.{List}
-use mathlib.Core.Path.{_≡_, refl, sym, ap, _∙_}
+use mathlib.Core.Path.{_≡_, refl, ap, _∙_}
 use native.Mathlib.Omega.{arith}
-use borrow.Author.Tests.{eqb-false, eq-eqb, ne-eqb}
 use lib.Dec.{eqb}
 use lib.ListN.{length}
-use Rattle.base.specs.Choice.{if_then_else_}
 use Rattle.base.specs.Bits as bits
-use Rattle.base.proofs.Choice.{either, either-told}
+use Rattle.base.proofs.Choice.{either}
 use Rattle.base.proofs.Counting.{count-le}
 use Rattle.base.proofs.Painting.{painted-length}
 use Rattle.picture.specs.Picture.{Seen}
 use Rattle.picture.specs.Refusals.{refusalOf}
 use Rattle.repaint.specs.Repaint.{repainted, countNamed}
-use Rattle.lent.specs.State.{State, Valid}
+use Rattle.lent.specs.State.{State}
 use Rattle.lent.specs.Calls.{Call, bit, Taken, otherLink, taken, takenBy, Called, refused, unlessOther, called}
-use Rattle.transcript.specs.Records.{unheard, counted, heard, eightBits, recorded}
+use Rattle.transcript.specs.Records.{heard, eightBits, recorded}
 
 -- a call that is refused leaves what a refusal leaves
 abbrev pub Unmoved : State → List ℕ → Called → Type 0
@@ -84,7 +81,7 @@ eight-length e value s frame =
     refl
 
 -- what holds after every call and after eight bits holds after every record
-of-each :
+pub of-each :
     (P : Called → Type 0) (e : Seen) (kind value : ℕ) (s : State) (frame : List ℕ)
     → ((call : Call) → P (called e s frame call))
     → P (eightBits e value s frame)
@@ -104,3 +101,12 @@ recorded-unmoved e kind value s frame =
 pub recorded-length : (e : Seen) (kind value : ℕ) (s : State) (frame : List ℕ) → length (recorded e kind value s frame .frame) ≡ length frame
 recorded-length e kind value s frame =
     of-each (λ (k : Called). length (k .frame) ≡ length frame) e kind value s frame (called-length e s frame) (eight-length e value s frame)
+
+-- the frame is what it was
+pub recorded-frame :
+    (e : Seen) (kind value : ℕ) (s : State) (frame : List ℕ) (k : Called)
+    → k ≡ recorded e kind value s frame
+    → (k .number ≡ 0 → ⊥)
+    → k .frame ≡ frame
+recorded-frame e kind value s frame k is z =
+    ap (λ (x : Called). x .frame) (is ∙ recorded-unmoved e kind value s frame (λ y. z (ap (λ (x : Called). x .number) is ∙ y)))

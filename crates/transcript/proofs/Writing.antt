@@ -3,7 +3,7 @@ use Prim.Native.Nat.{ℕ, zero, suc, _+_, _-_, _/_, _%_, _≤_, _<_}
 use mathlib.Core.Bool.{Bool, true, false}
 use mathlib.Core.List.{List, [], _∷_, _++_}
 use mathlib.Core.Path.{_≡_, refl, sym, ap, _∙_, subst}
-use native.Mathlib.Nat.{add-zero}
+use native.Mathlib.Nat.{zero-add}
 use native.Mathlib.Omega.{arith}
 use borrow.Author.Tests.{lt-ltb, le-ltb, eq-eqb, ne-eqb}
 use lib.Dec.{eqb, ltb}
@@ -11,14 +11,9 @@ use lib.ListN.{length, set, length-append}
 use lib.Seq.{sets, length-sets, length-take-le}
 use Rattle.base.specs.Choice.{if_then_else_}
 use Rattle.base.proofs.Choice.{either}
+use Rattle.base.proofs.Lists.{sets-append}
 use Rattle.transcript.specs.Replay.{Answered}
-use Rattle.transcript.specs.Text.{digit, decimal, shown, oneByte, fourBytes, middle, line, endLine, stopLine, lastLine, Put, Counts}
-
-sets-append : (l : List ℕ) (i : ℕ) (a b : List ℕ) → sets l i (a ++ b) ≡ sets (sets l i a) (i + length a) b
-sets-append l i [] b = ap (λ (k : ℕ). sets l k b) (sym (add-zero i))
-sets-append l i (x ∷ a) b =
-    let e : suc i + length a ≡ i + length (x ∷ a) = omega arith in
-    sets-append (set l i x) (suc i) a b ∙ ap (λ (k : ℕ). sets (sets (set l i x) (suc i) a) k b) e
+use Rattle.transcript.specs.Text.{digit, decimal, shown, oneByte, fourBytes, middle, line, endLine, stopLine, lastLine, Put, begunWith, leaves, Counts}
 
 module _ {l m : List ℕ} {i j : ℕ} {a : List ℕ} (p : Put l i a m j) where
   pub put-length : length m ≡ length l
@@ -46,20 +41,32 @@ put-four l i a b d e =
     let e₃ : i + 3 ≡ suc (suc (suc i)) = omega arith in
     record { stands = simp (e₁, e₂, e₃); follows = refl }
 
-pub decimal-length : (most n : ℕ) → length (decimal most n) ≤ most
-unfolding decimal
-decimal-length zero n = omega arith
-decimal-length (suc most) n = by-size (ltb n 10) (decimal-length most (n / 10))
-  where
-    by-size : (t : Bool) → length (decimal most (n / 10)) ≤ most → length ((if t then [] else decimal most (n / 10)) ++ ((0x30 + n % 10) ∷ [])) ≤ suc most
-    by-size true h = omega arith
-    by-size false h = omega (arith, length-append (decimal most (n / 10)) ((0x30 + n % 10) ∷ []))
-
 -- the digits of a number, by the code's tests
 pub decimal-small : (most n : ℕ) → (most ≡ 0 → ⊥) → n < 10 → decimal most n ≡ (0x30 + n % 10) ∷ []
 unfolding decimal
 decimal-small zero n h l = absurd (h refl)
 decimal-small (suc most) n h l = rw (lt-ltb n 10 l)
+
+-- one digit more than those before it
+one-more-digit : (most n k : ℕ) → length (decimal most (n / 10)) ≤ k → length (decimal (suc most) n) ≤ suc k
+unfolding decimal
+one-more-digit most n k h = behind (ltb n 10) (decimal most (n / 10)) h
+  where
+    behind : (t : Bool) (l : List ℕ) → length l ≤ k → length ((if t then [] else l) ++ ((0x30 + n % 10) ∷ [])) ≤ suc k
+    behind true l h = omega arith
+    behind false l h = omega (arith, length-append l ((0x30 + n % 10) ∷ []))
+
+pub decimal-length : (most n : ℕ) → length (decimal most n) ≤ most
+unfolding decimal
+decimal-length zero n = omega arith
+decimal-length (suc most) n = one-more-digit most n most (decimal-length most (n / 10))
+
+-- a count of at most 1,024 has at most four digits
+pub count-digits : (n : ℕ) → n ≤ 1024 → length (decimal 20 n) ≤ 4
+count-digits n h =
+    let few : n / 10 / 10 / 10 < 10 = omega arith in
+    one-more-digit 19 n 3
+    (one-more-digit 18 (n / 10) 2 (one-more-digit 17 (n / 10 / 10) 1 (omega (arith, ap length (decimal-small 17 (n / 10 / 10 / 10) (λ z. omega arith) few)))))
 
 decimal-suc : (most n : ℕ) → 10 ≤ n → decimal (suc most) n ≡ decimal most (n / 10) ++ ((0x30 + n % 10) ∷ [])
 unfolding decimal
@@ -70,6 +77,11 @@ decimal-large zero n h l = absurd (h refl)
 decimal-large (suc most) n h l =
     let e : suc most - 1 ≡ most = omega arith in
     decimal-suc most n l ∙ ap (λ (k : ℕ). decimal k (n / 10) ++ ((0x30 + n % 10) ∷ [])) (sym e)
+
+pub no-digits : (most n : ℕ) → most ≡ 0 → 0 ≡ length (decimal most n)
+unfolding decimal
+no-digits zero n e = refl
+no-digits (suc most) n e = absurd (omega arith)
 
 pub put-none : (l : List ℕ) (i most n : ℕ) → most ≡ 0 → Put l i (decimal most n) l i
 unfolding decimal
@@ -122,20 +134,25 @@ pub put-counts : {l m : List ℕ} {j : ℕ} {a : List ℕ} → Put l 0 a m j →
 put-counts {l} {m} {j} {a} p h = let n : j ≤ length m = omega (arith, p .follows, put-length p) in (n, sym (length-take-le j m n))
 
 -- the last line of a replay, in a buffer that has room for it
+last-put :
+    {l m : List ℕ} {j : ℕ} (place number : ℕ)
+    → length l ≡ 48
+    → Put l 0 (lastLine place number) m j
+    → (leaves j m ≡ begunWith l (lastLine place number)) × Counts j m
+last-put place number h p = (rw (p .stands, p .follows, zero-add), put-counts p (rw h (last-length place number)))
+
 pub last-end :
     {l m : List ℕ} {j : ℕ} (place number : ℕ)
     → number ≡ 0
     → length l ≡ 48
     → Put l 0 (endLine place) m j
-    → Put l 0 (lastLine place number) m j × Counts j m
-last-end {l} {m} {j} place number z h p =
-    let q : Put l 0 (lastLine place number) m j = rw (eq-eqb number 0 z) p in (q, put-counts q (rw h (last-length place number)))
+    → (leaves j m ≡ begunWith l (lastLine place number)) × Counts j m
+last-end place number z h p = last-put place number h (rw (eq-eqb number 0 z) p)
 
 pub last-stop :
     {l m : List ℕ} {j : ℕ} (place number : ℕ)
     → (number ≡ 0 → ⊥)
     → length l ≡ 48
     → Put l 0 (stopLine place number) m j
-    → Put l 0 (lastLine place number) m j × Counts j m
-last-stop {l} {m} {j} place number z h p =
-    let q : Put l 0 (lastLine place number) m j = rw (ne-eqb number 0 z) p in (q, put-counts q (rw h (last-length place number)))
+    → (leaves j m ≡ begunWith l (lastLine place number)) × Counts j m
+last-stop place number z h p = last-put place number h (rw (ne-eqb number 0 z) p)

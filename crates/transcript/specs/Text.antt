@@ -1,5 +1,5 @@
 -- Document 01, "Captures": what `replay` prints, as a function of the answers. Characters are ASCII bytes.
-use Prim.Native.Nat.{ℕ, zero, suc, _+_, _*_, _/_, _%_, _≤_}
+use Prim.Native.Nat.{ℕ, zero, suc, _+_, _/_, _%_, _≤_}
 use mathlib.Core.Bool.{_||_}
 use mathlib.Core.Path.{_≡_}
 use mathlib.Core.List.{List, [], _∷_, _++_}
@@ -7,7 +7,7 @@ use lib.Dec.{eqb, ltb}
 use lib.ListN.{length, take}
 use lib.Seq.{sets}
 use Rattle.base.specs.Choice.{if_then_else_}
-use Rattle.transcript.specs.Replay.{Answered, Ending, Replayed}
+use Rattle.transcript.specs.Replay.{Answered}
 
 -- a hex digit, in capitals
 abbrev pub digit : ℕ → ℕ
@@ -57,16 +57,17 @@ pub record Put (buffer : List ℕ) (at : ℕ) (text left : List ℕ) (next : ℕ
   pub stands : left ≡ sets buffer at text
   pub follows : next ≡ at + length text
 
+-- a text at the beginning of a buffer: what stands in the buffer then, and how many bytes are the text
+pub record Begun : Type 0 where
+  pub buffer : List ℕ
+  pub filled : ℕ
+
+abbrev pub begunWith : List ℕ → List ℕ → Begun
+begunWith buffer text = record { buffer = sets buffer 0 text; filled = length text }
+
+abbrev pub leaves : ℕ → List ℕ → Begun
+leaves filled buffer = record { buffer = buffer; filled = filled }
+
 -- a count of bytes at the beginning of a buffer
 abbrev pub Counts : ℕ → List ℕ → Type 0
 Counts n buffer = (n ≤ length buffer) × (n ≡ length (take n buffer))
-
--- a replay told: where it ends, the lines of its answers from the beginning of the buffer on, and how many bytes they are
-pub record Told (r : Replayed) (place : ℕ) (buffer : List ℕ) (ending : Ending) (left : List ℕ) (filled : ℕ) : Type 0 where
-  pub ends : ending ≡ r .ending
-  pub says : Put buffer 0 (lines place (r .answers)) left filled
-  pub counts : Counts filled left
-
--- as many whole records as a buffer has room for: 48 bytes hold the longest line, and a record has four bytes
-abbrev pub roomFor : List ℕ → List ℕ → List ℕ
-roomFor buffer capture = take (length buffer / 48 * 4) capture

@@ -1,21 +1,22 @@
 // The replay of a capture that writes a line for each accepted record.
 use crate::Told;
 use crate::records::obey;
+use crate::text::has_room;
 use crate::text::put_line;
 use capture::Answer;
 use panel::Panel;
 use picture::refusals::refusal;
 ghost use mathlib.Core.Path.{_≡_};
-ghost use Prim.Native.Nat.{_+_, _*_, _≤_, _<_, _^_};
-ghost use lib.ListN.{length};
 ghost use Rattle.picture.specs.Picture.{seen};
 ghost use Rattle.lent.specs.State.{Valid};
 ghost use Rattle.panel.specs.Handed.{stateOf};
-ghost use Rattle.transcript.specs.Replay.{replayed, endingAt};
-ghost use Rattle.transcript.specs.Text.{Told as ToldOf, roomFor};
+ghost use Rattle.transcript.specs.Text.{Counts};
+ghost use Rattle.transcript.specs.Transcript.{transcribed, tells};
 
-// Replays a capture into a buffer that has room for all its lines; records are numbered from a place on.
-fn tell(
+// Replays a capture as `replay` does, from a number of accepted records on, and writes their lines from the beginning of the
+// buffer on. Where the buffer has no room for one more line it stops before that record, with number 0; the place in the
+// answer says how many records there are now. `counts` serves whoever lends the lines on.
+pub fn transcribe(
     panel: Panel,
     place: usize,
     capture: &[u8],
@@ -25,9 +26,10 @@ fn tell(
     phase: bool,
     text: &mut [u8],
 ) -> Told
-    requires { ⌜ Valid (stateOf panel) × (place + length (now capture) < 2 ^ 64) × (12 * length (now capture) ≤ length (now text)) ⌝ }
-    ensures { λ r. ⌜ ToldOf (replayed (seen half full phase) (now (capture .entry)) (stateOf panel) (now (frame .entry)) place) place (now (text .entry)) (endingAt (stateOf (r .panel)) (now (frame .exit)) (r .place) (r .number)) (now (text .exit)) (r .filled) ⌝ }
+    requires { ⌜ Valid (stateOf panel) ⌝ }
+    ensures { λ r. ⌜ tells r (now (frame .exit)) (now (text .exit)) ≡ transcribed (seen half full phase) (now (capture .entry)) (stateOf panel) (now (frame .entry)) place (now (text .entry)) ⌝ }
     ensures valid { λ r. ⌜ Valid (stateOf (r .panel)) ⌝ }
+    ensures counts { λ r. ⌜ Counts (r .filled) (now (text .exit)) ⌝ }
 {
     let number = refusal(frame.len(), half.len(), full.len());
     if number != 0 {
@@ -52,6 +54,14 @@ fn tell(
                 filled,
             };
         };
+        if !has_room(text.len() - filled, reached) {
+            break Told {
+                panel: next,
+                place: reached,
+                number: 0,
+                filled,
+            };
+        }
         let outcome = obey(next, kind, value, frame, half, full, phase);
         let number = outcome.number;
         if number != 0 {
@@ -68,36 +78,4 @@ fn tell(
         at += 4;
     };
     told
-}
-
-// Replays as many whole records of a capture as the buffer has room for, 48 bytes a line, and writes their lines. `place`
-// in the answer says how many there are now; where it has grown by all that there was room for, the capture may go on.
-pub fn transcribe(
-    panel: Panel,
-    place: usize,
-    capture: &[u8],
-    frame: &mut [u8],
-    half: &[u8],
-    full: &[u8],
-    phase: bool,
-    text: &mut [u8],
-) -> Told
-    requires { ⌜ Valid (stateOf panel) × (place + length (now capture) < 2 ^ 64) ⌝ }
-    ensures { λ r. ⌜ ToldOf (replayed (seen half full phase) (roomFor (now (text .entry)) (now (capture .entry))) (stateOf panel) (now (frame .entry)) place) place (now (text .entry)) (endingAt (stateOf (r .panel)) (now (frame .exit)) (r .place) (r .number)) (now (text .exit)) (r .filled) ⌝ }
-    ensures valid { λ r. ⌜ Valid (stateOf (r .panel)) ⌝ }
-{
-    let room = text.len() / 48 * 4;
-    if capture.len() <= room {
-        return tell(panel, place, capture, frame, half, full, phase, text);
-    }
-    tell(
-        panel,
-        place,
-        &capture[..room],
-        frame,
-        half,
-        full,
-        phase,
-        text,
-    )
 }

@@ -3,7 +3,8 @@ ghost use mathlib.Core.Path.{_≡_};
 ghost use Prim.Native.Nat.{_+_, _≤_, _<_};
 ghost use lib.ListN.{length};
 ghost use Rattle.transcript.specs.Replay.{answer};
-ghost use Rattle.transcript.specs.Text.{digit as hexDigit, decimal, shown as shownAs, oneByte, fourBytes, middle, line, endLine, stopLine, lastLine, Put, Counts};
+ghost use Rattle.transcript.specs.Text.{digit as hexDigit, decimal, shown as shownAs, oneByte, fourBytes, middle, line, endLine, stopLine, lastLine, Put, begunWith, leaves, Counts};
+ghost use Rattle.transcript.specs.Transcript.{hasRoom};
 
 // A hex digit, in capitals.
 fn digit(d: u8) -> u8
@@ -24,6 +25,27 @@ fn shown(kind: u8, character: u8) -> u8
         return character;
     }
     b'-'
+}
+
+// How many digits a number has in decimal, with at most so many.
+fn digits(most: usize, n: usize) -> usize
+    ensures { λ r. ⌜ r ≡ length (decimal most n) ⌝ }
+{
+    if most == 0 {
+        return 0;
+    }
+    if n < 10 {
+        return 1;
+    }
+    digits(most - 1, n / 10) + 1
+}
+
+// Whether the longest line that a record of this number could have fits into the rest of a buffer, and whether the records
+// with it can be counted.
+pub(crate) fn has_room(rest: usize, place: usize) -> bool
+    ensures { λ r. ⌜ r ≡ hasRoom rest place ⌝ }
+{
+    digits(20, place) + 9 <= rest && place < usize::MAX
 }
 
 // A number in decimal, with at most so many digits.
@@ -114,9 +136,9 @@ fn put_stop(out: &mut [u8], place: usize, number: u8) -> usize
     put_byte(out, third, b'\n')
 }
 
-// The last line, by the number with which a replay stopped.
+// The last line, by the number with which a replay stopped; answers how long it is. `counts` serves whoever lends it on.
 pub fn put_last(out: &mut [u8; 48], place: usize, number: u8) -> usize
-    ensures { λ r. ⌜ Put (now (out .entry)) 0 (lastLine place number) (now (out .exit)) r ⌝ }
+    ensures { λ r. ⌜ leaves r (now (out .exit)) ≡ begunWith (now (out .entry)) (lastLine place number) ⌝ }
     ensures counts { λ r. ⌜ Counts r (now (out .exit)) ⌝ }
 {
     if number == 0 {

@@ -9,10 +9,10 @@ use Rattle.replay.proofs.fill.Statement.{statement}
 use Rattle.replay.proofs.fill.Tie as tie
 
 abbrev Inv-loop : tie.InvT-loop
-Inv-loop buffer₀ done₀ buffer done = (done ≤ length buffer) × (length buffer ≡ length buffer₀)
+Inv-loop buffer₀ done₀ t5 buffer done = (done ≤ length buffer) × (length buffer ≡ length buffer₀)
 
 abbrev μ-loop : tie.MeasureT-loop
-μ-loop buffer₀ done₀ buffer done = length buffer - done
+μ-loop buffer₀ done₀ t5 buffer done = length buffer - done
 
 pub fill-spec : {M : Type 1} → statement M
 fill-spec =
@@ -22,6 +22,11 @@ fill-spec =
     μ-loop
     (λ c. (omega arith, refl))
     (λ c κs. search needs)
+    (λ c. search needs)
+    (λ c κs. search needs)
+    (λ c. search needs)
+    (λ c. search needs)
+    (λ c. (omega arith, sym (length-take-le _ _ (omega arith))))
     (λ c. search needs)
     (λ c. (omega arith, sym (length-take-le _ _ (omega arith))))
     (λ c. search needs)

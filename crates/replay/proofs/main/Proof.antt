@@ -1,15 +1,19 @@
--- The panel handed on is valid; the turns left fall.
+-- The panel handed on is valid. A part that is followed by another had all its 1,024 records accepted, so the place rises.
+use Prim.Native.Nat.{_-_, _^_}
+use mathlib.Core.Path.{_≡_}
+use native.Mathlib.Omega.{arith}
 use borrow.Author.Needs.{needs}
+use borrow.Author.Tests.{not-false}
 use Rattle.lent.specs.State.{Valid}
 use Rattle.panel.specs.Handed.{stateOf}
 use Rattle.replay.proofs.main.Statement.{statement}
 use Rattle.replay.proofs.main.Tie as tie
 
 abbrev Inv-loop : tie.InvT-loop
-Inv-loop frame₀ panel₀ place₀ turns₀ t7 t8 t9 frame panel place turns = Valid (stateOf panel)
+Inv-loop frame₀ panel₀ place₀ t6 frame panel place = Valid (stateOf panel)
 
 abbrev μ-loop : tie.MeasureT-loop
-μ-loop frame₀ panel₀ place₀ turns₀ t7 t8 t9 frame panel place turns = turns
+μ-loop frame₀ panel₀ place₀ t6 frame panel place = 2 ^ 64 - place
 
 pub main-spec : {M : Type 1} → statement M
 main-spec =
@@ -19,7 +23,6 @@ main-spec =
     μ-loop
     (λ c κs. search needs)
     (λ c. search needs)
-    (λ c. search needs)
     (λ c κs. search needs)
     (λ c. search needs)
     (λ c κs. search needs)
@@ -31,8 +34,5 @@ main-spec =
     (λ c. search needs)
     (λ c κs. search needs)
     (λ c. search needs)
-    (λ c. search needs)
-    (λ c. search needs)
-    (λ c. search needs)
-    (λ c. search needs)
+    (λ c. omega (arith, c .before .before .before .before .all-taken .ensures (not-false _ (c .before .before .before .if4 .left))))
     (λ c. search needs))

@@ -16,4 +16,4 @@ received-acts-spec =
     (λ c κs. search needs)
     (λ c κs. search needs)
     (λ c. rw (c .unmoved .ensures, c .before .enum-told .given .1))
-    (λ c. rw (c .before .before .before .before .before .before .received .given .1) (c .carry-out .ensures ∙ ap (carriedOut (memories (c .before .before .before .before .before .before .before .before .args .text .now) (c .before .before .before .before .before .before .before .before .args .glyph .now) (c .before .before .before .before .before .before .before .before .args .graphic .now)) (c .before .before .before .before .before .before .before .before .args .control)) (c .before .before .before .before .written .ensures))))
+    (λ c. rw (c .before .before .before .before .before .before .received .given .1) (c .carry-out .ensures ∙ ap (carriedOut (memories (c .before .before .before .before .before .before .before .before .args .text .now) (c .before .before .before .before .before .before .before .before .args .glyph .now) (c .before .before .before .before .before .before .before .before .args .graphic .now)) (c .before .before .before .before .before .before .before .before .args .control)) (c .before .before .before .before .writing .ensures))))

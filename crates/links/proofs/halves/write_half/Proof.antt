@@ -15,7 +15,7 @@ write-half-spec =
     (λ c κs. search needs)
     (λ c κs. search needs)
     (λ c. rw (
-      c .written .ensures,
+      c .writing .ensures,
       c .before .joined .ensures,
       c .before .before .before .before .pairing .given .1,
       c .before .before .if1 .taken,

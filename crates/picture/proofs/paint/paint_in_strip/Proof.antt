@@ -6,7 +6,7 @@ use mathlib.Core.Path.{ap, _∙_}
 use native.Mathlib.Omega.{arith}
 use Rattle.base.proofs.Parts.{put-pair}
 use Rattle.controller.specs.Glass.{placeOf}
-use Rattle.picture.specs.Strip.{stored}
+use Rattle.picture.specs.Strip.{pairStored}
 use Rattle.picture.proofs.paint.paint_in_strip.Statement.{statement}
 use Rattle.picture.proofs.paint.paint_in_strip.Tie as tie
 
@@ -26,4 +26,4 @@ paint-in-strip-spec =
     (λ c. search needs)
     (λ c. let a = c .before .before .before .before .before .before .before .before .args in
     let h : 32 * a .row + 2 * a .cell + 2 ≤ length (a .frame .now) = omega arith in
-    rw (c .before .before .paint-row .ensures) (put-pair _ _ _ _ h ∙ ap (stored (a .frame .now) (placeOf (a .row) (2 * a .cell))) (c .before .before .before .before .cell-row .ensures))))
+    rw (c .before .before .paint-row .ensures) (put-pair _ _ _ _ h ∙ ap (pairStored (a .frame .now) (placeOf (a .row) (2 * a .cell))) (c .before .before .before .before .cell-row .ensures))))

@@ -1,5 +1,4 @@
 -- The first bit by itself, then a loop over the seven others.
-use borrow.Author.Needs.{needs}
 use mathlib.Core.Path.{_∙_}
 use native.Mathlib.Omega.{arith}
 use Rattle.panel.specs.Handed.{stateOf}

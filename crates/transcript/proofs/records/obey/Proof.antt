@@ -1,7 +1,6 @@
 -- By the kind.
 use borrow.Author.Needs.{needs}
 use mathlib.Core.Path.{_∙_}
-use native.Mathlib.Omega.{arith}
 use Rattle.transcript.specs.Records.{recorded}
 use Rattle.transcript.proofs.OtherKinds.{others-reset}
 use Rattle.transcript.proofs.records.obey.Statement.{statement}

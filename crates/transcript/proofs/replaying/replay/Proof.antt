@@ -9,13 +9,13 @@ use Rattle.capture.specs.declared.Answer.the-variants.{Record}
 use Rattle.capture.specs.Record.{number}
 use Rattle.capture.specs.Capture.{answerAt, passed}
 use Rattle.capture.proofs.Answers.{no-record-in-else}
-use Rattle.transcript.proofs.Going.{Replaying, refuses-all, starts, long, goes-on, refuses, stops}
+use Rattle.transcript.proofs.Going.{turned-away, Going, begins, long, turns, refuses, stops}
 use Rattle.transcript.proofs.replaying.replay.Statement.{statement}
 use Rattle.transcript.proofs.replaying.replay.Tie as tie
 
 abbrev Inv-loop : tie.InvT-loop
 Inv-loop capture frame₀ half full phase number next₀ place₀ reply₀ count₀ at₀ frame next place reply count at =
-    Replaying (record { half = half; full = full; phase = phase }) capture (stateOf next₀) frame₀ 0 (stateOf next) frame place at reply count
+    Going (record { half = half; full = full; phase = phase }) capture (stateOf next₀) frame₀ 0 (stateOf next) frame place at reply count
 
 abbrev μ-loop : tie.MeasureT-loop
 μ-loop capture frame₀ half full phase number next₀ place₀ reply₀ count₀ at₀ frame next place reply count at = length capture - at
@@ -31,17 +31,17 @@ replay-spec =
     Inv-loop
     μ-loop
     (λ c κs. search needs)
-    (λ c. (refuses-all _ _ _ _ _ _ (c .before .refusal .ensures) (c .if1 .taken), c .before .before .before .before .before .before .pre))
-    (λ c. starts _ _ _ _ _ (c .before .before .before .before .before .before .pre))
+    (λ c. (turned-away _ _ _ _ _ _ (c .before .refusal .ensures) (c .if1 .taken), c .before .before .before .before .before .before .pre))
+    (λ c. begins _ _ _ _ _ _ (c .before .refusal .ensures) (c .if1 .left) (c .before .before .before .before .before .before .pre))
     (λ c κs. search needs)
     (λ c. search needs)
     (λ c κs. search needs)
-    (λ c κs. c .before .before .before .before .before .loop .inv .going .valid)
-    (λ c. omega (arith, c .before .before .before .before .before .before .before .before .before .before .before .before .before .before .before .before .before .good .1 .0, long _ _ _ _ _ (c .before .before .before .before .before .before .before .before .before .before .loop .inv .going) (known (c .before .before .before .before .before .before .before)), c .before .before .before .before .before .before .before .before .before .before .loop .inv .going .placed))
-    (λ c. omega (arith, c .before .before .before .before .before .before .before .before .before .before .before .before .before .before .before .before .before .good .1 .0, long _ _ _ _ _ (c .before .before .before .before .before .before .before .before .before .before .loop .inv .going) (known (c .before .before .before .before .before .before .before))))
-    (λ c. omega (arith, long _ _ _ _ _ (c .before .before .before .before .before .before .before .before .before .before .loop .inv .going) (known (c .before .before .before .before .before .before .before))))
-    (λ c. goes-on _ _ _ _ _ (c .before .before .before .before .before .before .before .before .before .before .loop .inv) _ (known (c .before .before .before .before .before .before .before)) (c .before .before .before .before .obey .ensures .0) (c .before .if2 .left) (c .before .before .before .before .obey .ensures .1))
-    (λ c. c .before .before .before .loop .inv .going .framed)
-    (λ c. (stops _ _ _ _ _ (c .before .before .before .loop .inv) _ _ (ap passed (sym (c .before .before .record-at .ensures)) ∙ no-record-in-else (c .before .before .record-at .result) (c .before .match .keys2)) (c .number .ensures ∙ ap number (c .before .before .record-at .ensures)) (c .before .before .before .before .before .refusal .ensures) (c .before .before .before .before .if1 .left), c .before .before .before .loop .inv .going .valid))
-    (λ c. c .before .before .before .obey .kept .1 .1 .1 .0 ∙ c .before .before .before .before .before .before .before .before .before .loop .inv .going .framed)
-    (λ c. (refuses _ _ _ _ _ (c .before .before .before .before .before .before .before .before .before .loop .inv) _ _ (known (c .before .before .before .before .before .before)) (c .before .before .before .obey .ensures .0) (c .if2 .taken) (c .before .before .before .before .before .before .before .before .before .before .before .refusal .ensures) (c .before .before .before .before .before .before .before .before .before .before .if1 .left), c .before .before .before .before .before .before .before .before .before .loop .inv .going .valid)))
+    (λ c κs. c .before .before .before .before .before .loop .inv .valid)
+    (λ c. omega (arith, c .before .before .before .before .before .before .before .before .before .before .before .before .before .before .before .before .before .good .1 .0, long _ _ _ _ _ (c .before .before .before .before .before .before .before .before .before .before .loop .inv) (known (c .before .before .before .before .before .before .before)), c .before .before .before .before .before .before .before .before .before .before .loop .inv .placed))
+    (λ c. omega (arith, c .before .before .before .before .before .before .before .before .before .before .before .before .before .before .before .before .before .good .1 .0, long _ _ _ _ _ (c .before .before .before .before .before .before .before .before .before .before .loop .inv) (known (c .before .before .before .before .before .before .before))))
+    (λ c. omega (arith, long _ _ _ _ _ (c .before .before .before .before .before .before .before .before .before .before .loop .inv) (known (c .before .before .before .before .before .before .before))))
+    (λ c. turns _ _ _ _ _ (c .before .before .before .before .before .before .before .before .before .before .loop .inv) _ (known (c .before .before .before .before .before .before .before)) (c .before .before .before .before .obey .ensures .0) (c .before .if2 .left) (c .before .before .before .before .obey .ensures .1))
+    (λ c. c .before .before .before .loop .inv .framed)
+    (λ c. (stops _ _ _ _ _ (c .before .before .before .loop .inv) _ (ap passed (sym (c .before .before .record-at .ensures)) ∙ no-record-in-else (c .before .before .record-at .result) (c .before .match .keys2)) (c .number .ensures ∙ ap number (c .before .before .record-at .ensures)), c .before .before .before .loop .inv .valid))
+    (λ c. c .before .before .before .obey .kept .1 .1 .1 .0 ∙ c .before .before .before .before .before .before .before .before .before .loop .inv .framed)
+    (λ c. (refuses _ _ _ _ _ (c .before .before .before .before .before .before .before .before .before .loop .inv) _ (known (c .before .before .before .before .before .before)) (c .before .before .before .obey .ensures .0) (c .if2 .taken), c .before .before .before .before .before .before .before .before .before .loop .inv .valid)))

@@ -1,5 +1,5 @@
 -- By the tests of the definition; the call for the digits before has one digit less to write.
-use Prim.Native.Nat.{ℕ, _<_, _-_, _/_}
+use Prim.Native.Nat.{ℕ, _<_, _-_}
 use mathlib.Core.Path.{ap}
 use native.Mathlib.Omega.{arith}
 use borrow.Fn.Kinds.{In}
