@@ -2,7 +2,7 @@
 use Rattle.demands.specs.Demand1.{Demand1}
 use Rattle.demands.proofs.Tables.{table-once, send-refuses, send-once, record-says, record-once}
 use Rattle.demands.proofs.Calls.{call-refuses, draw-refuses}
-use Rattle.demands.proofs.Replays.{replay-stops}
+use Rattle.demands.proofs.Replays.{replay-stops, transcript-refuses, exported-replay-refuses}
 
 pub demand-1 : Demand1
 demand-1 =
@@ -12,6 +12,8 @@ demand-1 =
       sends = send-refuses;
       captures = record-says;
       replays = replay-stops;
+      transcripts = transcript-refuses;
+      exportedReplays = exported-replay-refuses;
       oneNumberForCalls = table-once;
       oneNumberForSends = send-once;
       oneAnswerForRecords = record-once;

@@ -2,6 +2,7 @@
 use Prim.Native.Nat.{ℕ, zero, suc, _+_}
 use mathlib.Core.Bool.{Bool, true, false, not, true≢false}
 use mathlib.Core.List.{List, [], _∷_, _++_, map, flatten}
+use mathlib.Core.Logic.{_≢_}
 use mathlib.Core.Path.{_≡_, refl, sym, ap, _∙_}
 use native.Mathlib.Omega.{arith}
 use lib.ListN.{length, take, replicate}
@@ -15,7 +16,7 @@ use Rattle.links.specs.declared.Link.the-variants.{Parallel, Serial}
 use Rattle.picture.specs.Picture.{Seen}
 use Rattle.picture.specs.Refusals.{refusalOf}
 use Rattle.steps.specs.Steps.{bitStep}
-use Rattle.lent.specs.State.{State}
+use Rattle.lent.specs.State.{State, freshState}
 use Rattle.lent.specs.Calls.{Call, bit, takenBy, unlessOther, called, Stands, after}
 use Rattle.sequences.specs.Wires.{Fits, answers, numbersOf}
 use Rattle.sequences.proofs.Sequences.{after-append, numbers-append, zeros-append}
@@ -23,9 +24,11 @@ use Rattle.capture.specs.Record.{number}
 use Rattle.capture.specs.Capture.{Recorded, contents}
 use Rattle.transcript.specs.Records.{heard, eightBits, recorded}
 use Rattle.transcript.specs.Replay.{Replayed, obeyed, obeyedAll, replayed}
+use Rattle.transcript.specs.Transcript.{transcribed}
+use Rattle.boundary.specs.Report.{freshReplay}
 use Rattle.transcript.proofs.Refused.{called-length, heard-accepted, recorded-length}
 use Rattle.demands.specs.Captures.{callsOf, callsOfAll}
-use Rattle.demands.specs.Demand1.{TableSays, ofOtherLink, firstOfOtherLink, StopsAt, behindAll, atRecord, ReplayStops}
+use Rattle.demands.specs.Demand1.{TableSays, ofOtherLink, firstOfOtherLink, StopsAt, behindAll, atRecord, ReplayStops, TranscriptRefuses, ExportedReplayRefuses}
 use Rattle.demands.proofs.Tables.{orOther, table-number}
 use Rattle.demands.proofs.Calls.{call-number}
 
@@ -253,15 +256,28 @@ module _ (e : Seen) (capture : List ℕ) (s : State) (frame : List ℕ) where
       rw (let-in fits, obeyed-all-place e (number (contents capture .stop)) (contents capture .records) s frame)
       (o .stops, o .accepted, o .stands)
 
+  -- refused as a call, with the number of the buffers
+  refused-with : (n : ℕ) → TableSays e frame false n → n ≢ 0 → (eqb buffers 0 ≡ false) × (n ≡ buffers)
+  refused-with n says h =
+      let is = table-number e frame false n says in
+      by-test (eqb buffers 0) (λ t. absurd (h (rw t at is))) (λ t. (t, rw t at is))
+
   pub replay-stops : ReplayStops e capture s frame (replayed e capture s frame 0)
   unfolding replayed
   replay-stops =
       record {
-        refused =
-            λ n says h. let is = table-number e frame false n says in
-            by-test (eqb buffers 0) (λ t. absurd (h (rw t at is)))
-            (λ t. rw t (sym (rw t at is), refl, refl, refl));
+        refused = λ n says h. let r = refused-with n says h in rw (r .0) (sym (r .1), refl, refl, refl);
         stops = λ says. told (fit says) .0;
         accepted = λ says. told (fit says) .1;
         stands = λ says. told (fit says) .2;
       }
+
+pub transcript-refuses : TranscriptRefuses
+unfolding transcribed
+transcript-refuses e capture s frame place text n says h = let r = refused-with e capture s frame n says h in rw (r .0, ← r .1)
+
+pub exported-replay-refuses : ExportedReplayRefuses
+unfolding freshReplay
+exported-replay-refuses parallel e capture frame state last n says h =
+    let r = refused-with e capture (freshState parallel) frame n says h in
+    rw (r .0, ← r .1)

@@ -22,6 +22,8 @@ use Rattle.capture.specs.declared.Answer.the-variants.{Record, Short, WrongMark
 use Rattle.capture.specs.Record.{kindOf, valueOf, answer, number}
 use Rattle.capture.specs.Capture.{Recorded, contents}
 use Rattle.transcript.specs.Replay.{Replayed, replayed}
+use Rattle.transcript.specs.Transcript.{transcribed, standsAt}
+use Rattle.boundary.specs.Report.{report, freshReplay}
 use Rattle.demands.specs.Captures.{callsOf, callsOfAll}
 
 -- frame and fonts as document 01 wants them: what refusals 1, 2 and 3 find missing
@@ -137,12 +139,29 @@ pub record ReplayStops (e : Seen) (capture : List ℕ) (s : State) (frame : List
       → record { state = r .ending .state; frame = r .ending .frame }
       ≡ after e s frame (callsOfAll (take (r .ending .place) (contents capture .records)))
 
+-- the printed transcript, and the replay that other languages link, are refused as calls too, and leave all that they were lent
+abbrev pub TranscriptRefuses : Type 0
+TranscriptRefuses =
+    (e : Seen) (capture : List ℕ) (s : State) (frame : List ℕ) (place : ℕ) (text : List ℕ) (n : ℕ)
+    → TableSays e frame false n
+    → n ≢ 0
+    → transcribed e capture s frame place text ≡ standsAt s frame place n text 0
+
+abbrev pub ExportedReplayRefuses : Type 0
+ExportedReplayRefuses =
+    (parallel : Bool) (e : Seen) (capture frame state last : List ℕ) (n : ℕ)
+    → TableSays e frame false n
+    → n ≢ 0
+    → freshReplay parallel e capture frame state last ≡ report n frame state last
+
 pub record Demand1 : Type 0 where
   pub calls : (e : Seen) (s : State) (frame : List ℕ) (call : Call) → CallRefuses e s frame call
   pub draws : (e : Seen) (m : Memories) (c : Control) (frame : List ℕ) → DrawRefuses e m c frame
   pub sends : (register : Bool) (byte : ℕ) (buffer : List ℕ) → SendRefuses register byte buffer
   pub captures : (c : List ℕ) → RecordSays c (answer c) (number (answer c))
   pub replays : (e : Seen) (capture : List ℕ) (s : State) (frame : List ℕ) → ReplayStops e capture s frame (replayed e capture s frame 0)
+  pub transcripts : TranscriptRefuses
+  pub exportedReplays : ExportedReplayRefuses
   pub oneNumberForCalls : (e : Seen) (frame : List ℕ) (other : Bool) → OneNumber (TableSays e frame other)
   pub oneNumberForSends : (buffer : List ℕ) → OneNumber (SenderSays buffer)
   pub oneAnswerForRecords : (c : List ℕ) → OneAnswer (RecordSays c)
