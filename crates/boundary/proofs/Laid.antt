@@ -7,8 +7,8 @@ use lib.ListN.{length, take, drop, length-append, length-drop, drop-of-length-le
 use lib.Seq.{take-length, take-at, drop-at}
 use borrow.Rule.Slice.PartMut.{putMid}
 use Rattle.lent.specs.State.{State}
-use Rattle.boundary.specs.Packed.{packed}
-use Rattle.boundary.specs.LinkPacked.{linkPacked}
+use Rattle.packed.specs.Packed.{packed}
+use Rattle.packed.specs.LinkPacked.{linkPacked}
 use Rattle.boundary.specs.Report.{stateBytes}
 
 -- a copy over as many bytes leaves none of them

@@ -1,6 +1,4 @@
-pub mod Flags
 pub mod Laid
 pub mod Told
-pub mod PackedUnpacked
-pub mod LinkRead
+pub mod DrawnFromBytes
 pub mod StatesAlike

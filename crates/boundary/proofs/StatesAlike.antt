@@ -9,10 +9,10 @@ use Rattle.controller.specs.State.{InRange}
 use Rattle.controller.specs.Memories.{memories}
 use Rattle.links.specs.declared.Link.{Link}
 use Rattle.lent.specs.State.{State, state, Valid}
-use Rattle.boundary.specs.Packed.{unpacked, packed}
+use Rattle.packed.specs.Packed.{unpacked, packed}
 use Rattle.boundary.specs.Report.{stateBytes}
-use Rattle.boundary.proofs.PackedUnpacked.{unpacked-packed}
-use Rattle.boundary.proofs.LinkRead.{FourBits, links-alike}
+use Rattle.packed.proofs.PackedUnpacked.{unpacked-packed}
+use Rattle.packed.proofs.LinkRead.{FourBits, links-alike}
 
 controls-alike : (c d : Control) → InRange c → InRange d → packed c ≡ packed d → c ≡ d
 controls-alike c d hc hd is = sym (unpacked-packed c hc) ∙ ap unpacked is ∙ unpacked-packed d hd

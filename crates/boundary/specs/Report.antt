@@ -9,8 +9,8 @@ use Rattle.picture.specs.Picture.{Seen}
 use Rattle.picture.specs.Refusals.{refusalOf}
 use Rattle.lent.specs.State.{State, freshState}
 use Rattle.transcript.specs.Replay.{Stopped, stopped, replayed}
-use Rattle.boundary.specs.Packed.{packed}
-use Rattle.boundary.specs.LinkPacked.{linkPacked}
+use Rattle.packed.specs.Packed.{packed}
+use Rattle.packed.specs.LinkPacked.{linkPacked}
 
 -- a state as 2,337 bytes: text memory 128, glyph memory 128, graphic memory 2,048, the controls 23, the link 10
 unfoldable pub stateBytes : State → List ℕ

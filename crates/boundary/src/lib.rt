@@ -1,21 +1,19 @@
 // Functions for C or Rust to link: numbers and byte slices alone cross the border. A state crosses it as 2,337 bytes, and its controls
 // alone as 23 of them. Nothing is asked of a caller.
-mod packing;
 mod spelling;
-mod unpacking;
 
+use packed::unpack;
 use panel::Made;
 use panel::Panel;
 use picture::refusals::refusal;
 use spelling::last_bytes;
 use spelling::spell_state;
-use unpacking::unpack;
 ghost use mathlib.Core.Path.{_≡_};
 ghost use Rattle.controller.specs.Memories.{before};
 ghost use Rattle.picture.specs.Picture.{seen};
 ghost use Rattle.picture.specs.Refusals.{leaves, drawn};
 ghost use Rattle.links.specs.Sender.{leaving, sent};
-ghost use Rattle.boundary.specs.Packed.{unpacked};
+ghost use Rattle.packed.specs.Packed.{unpacked};
 ghost use Rattle.boundary.specs.Report.{report, freshReplay};
 
 // Draws the picture of a state into the frame, and answers 0 or the refusal's number.

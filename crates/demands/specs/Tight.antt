@@ -25,10 +25,10 @@ use Rattle.capture.specs.Capture.{answerAt}
 use Rattle.capture.specs.Reader as reader
 use Rattle.transcript.specs.declared.Stop.{Stop}
 use Rattle.transcript.specs.declared.Told.{Told}
-use Rattle.transcript.specs.Text as lines
+use Rattle.lines.specs.Text as lines
 use Rattle.transcript.specs.Transcript.{Transcribed, transcribed, tells}
 use Rattle.transcript.specs.Replay.{Stopped, stopped, stopsAt, replayed}
-use Rattle.boundary.specs.Packed.{unpacked}
+use Rattle.packed.specs.Packed.{unpacked}
 use Rattle.boundary.specs.Report.{Report, report, freshReplay}
 use Rattle.glass.specs.Braille as brailleOf
 use Rattle.glass.specs.Plain as plainOf

@@ -13,7 +13,7 @@ ghost use mathlib.Core.Path.{_≡_};
 ghost use lib.ListN.{length};
 ghost use Rattle.lent.specs.State.{Valid};
 ghost use Rattle.panel.specs.Handed.{stateOf};
-ghost use Rattle.transcript.specs.Text.{Counts};
+ghost use Rattle.lines.specs.Text.{Counts};
 
 // How many bytes came, and whether a read failed.
 struct Filled {
@@ -118,7 +118,7 @@ fn part(panel: Panel, place: usize, frame: &mut [u8; 1024]) -> Came
 // The last line.
 fn print_last(place: usize, number: u8) {
     let mut text = [0u8; 48];
-    let n = transcript::put_last(&mut text, place, number);
+    let n = lines::put_last(&mut text, place, number);
     print(&text[..n]);
 }
 

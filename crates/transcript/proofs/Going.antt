@@ -15,7 +15,8 @@ use Rattle.capture.specs.Capture.{Contents, contents, answerAt, passed}
 use Rattle.capture.proofs.Answers.{record-within}
 use Rattle.capture.proofs.Contents.{contents-at-record, contents-at-stop}
 use Rattle.transcript.specs.Records.{recorded}
-use Rattle.transcript.specs.Replay.{Answered, endingAt, Replayed, halted, answered, afterAnswer, obeyed, obeyedAll, replayed, lastOr, unanswered, Stopped, stopped}
+use Rattle.lines.specs.Text.{Answered}
+use Rattle.transcript.specs.Replay.{endingAt, Replayed, halted, answered, afterAnswer, obeyed, obeyedAll, replayed, lastOr, unanswered, Stopped, stopped}
 use Rattle.transcript.specs.Statements.{afterAnswers}
 use Rattle.transcript.proofs.Refused.{recorded-frame, recorded-length}
 

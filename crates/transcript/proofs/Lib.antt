@@ -3,7 +3,6 @@ pub mod Once
 pub mod Bits
 pub mod OtherKinds
 pub mod Going
-pub mod Writing
 pub mod Lines
 pub mod Parts
 pub mod Roomy

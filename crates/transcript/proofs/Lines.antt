@@ -19,12 +19,12 @@ use Rattle.capture.specs.Capture.{Contents, contents, answerAt, passed}
 use Rattle.capture.proofs.Answers.{record-within}
 use Rattle.capture.proofs.Contents.{contents-at-record, contents-at-stop}
 use Rattle.transcript.specs.Records.{recorded}
-use Rattle.transcript.specs.Replay.{Answered, answered}
-use Rattle.transcript.specs.Text.{line, Put, Counts}
-use Rattle.transcript.specs.Transcript.{longestLine, hasRoom, Transcribed, standsAt, told, toldAll, transcribed}
+use Rattle.lines.specs.Text.{Answered, line, Put, Counts, longestLine, hasRoom}
+use Rattle.transcript.specs.Replay.{answered}
+use Rattle.transcript.specs.Transcript.{Transcribed, standsAt, told, toldAll, transcribed}
 use Rattle.transcript.proofs.Refused.{recorded-frame, recorded-length}
 use Rattle.transcript.proofs.Once.{recorded-count}
-use Rattle.transcript.proofs.Writing.{put-length, line-length, count-digits}
+use Rattle.lines.proofs.Writing.{put-length, line-length, count-digits}
 
 -- a record that has room: its line fits, and it can be counted
 module _ (rest n : ℕ) (room : hasRoom rest n ≡ true) where

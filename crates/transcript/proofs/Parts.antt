@@ -18,7 +18,8 @@ use Rattle.capture.specs.Record.{number}
 use Rattle.capture.specs.Capture.{Recorded, Contents, contents, passed}
 use Rattle.capture.proofs.Contents.{joinedAt, contents-of-parts, contents-stop}
 use Rattle.transcript.specs.Records.{recorded}
-use Rattle.transcript.specs.Replay.{Answered, Replayed, halted, answered, afterAnswer, obeyed, obeyedAll, replayed}
+use Rattle.lines.specs.Text.{Answered}
+use Rattle.transcript.specs.Replay.{Replayed, halted, answered, afterAnswer, obeyed, obeyedAll, replayed}
 use Rattle.transcript.specs.Statements.{afterAnswers, goneOn, PartsReplayAsWhole}
 use Rattle.transcript.proofs.Refused.{recorded-length}
 

@@ -18,12 +18,12 @@ use Rattle.lent.specs.Calls.{Called}
 use Rattle.capture.specs.Record.{number}
 use Rattle.capture.specs.Capture.{Recorded, Contents, contents}
 use Rattle.transcript.specs.Records.{recorded}
-use Rattle.transcript.specs.Replay.{Answered, Replayed, halted, answered, afterAnswer, obeyed, obeyedAll, replayed}
-use Rattle.transcript.specs.Text.{line, lines}
-use Rattle.transcript.specs.Transcript.{longestLine, hasRoom, Transcribed, standsAt, told, toldAll, transcribed}
+use Rattle.lines.specs.Text.{Answered, line, lines, longestLine, hasRoom}
+use Rattle.transcript.specs.Replay.{Replayed, halted, answered, afterAnswer, obeyed, obeyedAll, replayed}
+use Rattle.transcript.specs.Transcript.{Transcribed, standsAt, told, toldAll, transcribed}
 use Rattle.transcript.specs.Statements.{withLines, RoomTellsAll}
 use Rattle.transcript.proofs.Once.{recorded-count}
-use Rattle.transcript.proofs.Writing.{decimal-length, line-length, count-digits}
+use Rattle.lines.proofs.Writing.{decimal-length, line-length, count-digits}
 
 has-room : (rest n : ℕ) → 29 ≤ rest → n < 2 ^ 64 - 1 → hasRoom rest n ≡ true
 unfolding hasRoom

@@ -11,14 +11,9 @@ use Rattle.panel.specs.Handed.{stateOf}
 use Rattle.lent.specs.Calls.{Called}
 use Rattle.capture.specs.Record.{number}
 use Rattle.capture.specs.Capture.{Recorded, Contents, contents}
+use Rattle.lines.specs.Text.{Answered, answer}
 use Rattle.transcript.specs.declared.Stop.{Stop}
 use Rattle.transcript.specs.Records.{recorded}
-
--- what an accepted record answers
-pub record Answered : Type 0 where
-  pub kind : ℕ
-  pub reply : ℕ
-  pub count : ℕ
 
 -- where a replay stands when it stops: the state, the frame, the records accepted, and the refusal number, 0 at the end
 pub record Ending : Type 0 where
@@ -37,9 +32,6 @@ pub record Replayed : Type 0 where
 
 abbrev pub halted : State → List ℕ → ℕ → ℕ → Replayed
 halted s frame place number = record { answers = []; ending = endingAt s frame place number }
-
-abbrev pub answer : ℕ → ℕ → ℕ → Answered
-answer kind reply count = record { kind = kind; reply = reply; count = count }
 
 abbrev pub answered : ℕ → Called → Answered
 answered kind k = answer kind (k .reply) (k .count)

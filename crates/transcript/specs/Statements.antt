@@ -13,8 +13,8 @@ use Rattle.lent.specs.State.{State}
 use Rattle.lent.specs.Calls.{bit, Called, called}
 use Rattle.capture.specs.Capture.{contents}
 use Rattle.transcript.specs.Records.{eightBits}
-use Rattle.transcript.specs.Replay.{Answered, Replayed, replayed}
-use Rattle.transcript.specs.Text.{lines}
+use Rattle.lines.specs.Text.{Answered, lines}
+use Rattle.transcript.specs.Replay.{Replayed, replayed}
 use Rattle.transcript.specs.Transcript.{Transcribed, transcribed}
 
 -- the counts of a value's lowest bits, as many as are left, highest first

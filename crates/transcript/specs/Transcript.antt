@@ -1,9 +1,9 @@
 -- Document 01, "Captures": the printed lines in a lent buffer. One that is too small takes as many whole records as fit. What a
 -- record answers is known only when it has been carried out, so the longest line that it could have is asked to fit before that.
-use Prim.Native.Nat.{ℕ, _+_, _-_, _^_}
-use mathlib.Core.Bool.{Bool, not, _&&_}
+use Prim.Native.Nat.{ℕ, _+_, _-_}
+use mathlib.Core.Bool.{not}
 use mathlib.Core.List.{List, [], _∷_}
-use lib.Dec.{eqb, leb, ltb}
+use lib.Dec.{eqb}
 use lib.ListN.{length}
 use lib.Seq.{sets}
 use Rattle.base.specs.Choice.{if_then_else_}
@@ -17,15 +17,7 @@ use Rattle.capture.specs.Capture.{Recorded, Contents, contents}
 use Rattle.transcript.specs.declared.Told.{Told}
 use Rattle.transcript.specs.Records.{recorded}
 use Rattle.transcript.specs.Replay.{Ending, endingAt, answered}
-use Rattle.transcript.specs.Text.{decimal, line}
-
--- the longest line: the digits of its number, two spaces, two characters, a count of at most 1,024, a line feed
-abbrev pub longestLine : ℕ → ℕ
-longestLine place = length (decimal 20 place) + 9
-
--- a record is taken where that fits into the rest of the buffer, and where the records with it are counted in 64 bits
-unfoldable pub hasRoom : ℕ → ℕ → Bool
-hasRoom rest place = leb (longestLine place) rest && ltb place (2 ^ 64 - 1)
+use Rattle.lines.specs.Text.{hasRoom, line}
 
 -- where the replay stands, what stands in the buffer, and how many bytes at its beginning are lines
 pub record Transcribed : Type 0 where

@@ -4,11 +4,9 @@ use panel::Panel;
 mod records;
 mod replaying;
 mod telling;
-mod text;
 
 pub use replaying::replay;
 pub use telling::transcribe;
-pub use text::put_last;
 
 // Where a replay stopped: the panel then, how many records were accepted, and the refusal number, 0 at the end of the capture.
 // Beside it the reply and the count of the last record accepted, 0 and 0 where there was none.

@@ -1,16 +1,16 @@
 // The replay of a capture that writes a line for each accepted record.
 use crate::Told;
 use crate::records::obey;
-use crate::text::has_room;
-use crate::text::put_line;
 use capture::Answer;
+use lines::has_room;
+use lines::put_line;
 use panel::Panel;
 use picture::refusals::refusal;
 ghost use mathlib.Core.Path.{_≡_};
 ghost use Rattle.picture.specs.Picture.{seen};
 ghost use Rattle.lent.specs.State.{Valid};
 ghost use Rattle.panel.specs.Handed.{stateOf};
-ghost use Rattle.transcript.specs.Text.{Counts};
+ghost use Rattle.lines.specs.Text.{Counts};
 ghost use Rattle.transcript.specs.Transcript.{transcribed, tells};
 
 // Replays a capture as `replay` does, from a number of accepted records on, and writes their lines from the beginning of the
