@@ -9,7 +9,7 @@ use borrow.Author.Tests.{eq-eqb, ne-eqb}
 use Rattle.picture.specs.Picture.{Seen}
 use Rattle.picture.specs.Refusals.{refusalOf}
 use Rattle.lent.specs.State.{State, freshState}
-use Rattle.transcript.specs.Replay.{Stopped, stopped, replayed}
+use Rattle.transcript.specs.Replay.{Stopped, stopped, endless, replayed}
 use Rattle.boundary.specs.Report.{stateBytes, lastBytes, report, freshReplay}
 
 module _ (parallel : Bool) (e : Seen) (capture frame state₀ last₀ : List ℕ) (n : ℕ) (is : n ≡ refusalOf (length frame) (length (e .half)) (length (e .full))) where
@@ -21,7 +21,7 @@ module _ (parallel : Bool) (e : Seen) (capture frame state₀ last₀ : List ℕ
       {p : State} {s : Stopped} {state last : List ℕ}
       → n ≡ 0
       → p ≡ freshState parallel
-      → s ≡ stopped (replayed e capture p frame 0)
+      → s ≡ stopped (replayed e endless capture p frame 0)
       → state ≡ stateBytes (s .ending .state)
       → last ≡ lastBytes (s .ending .place) (s .reply) (s .count)
       → report (s .ending .number) (s .ending .frame) state last ≡ freshReplay parallel e capture frame state₀ last₀

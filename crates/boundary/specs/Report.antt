@@ -8,7 +8,7 @@ use Rattle.base.specs.Choice.{if_then_else_}
 use Rattle.picture.specs.Picture.{Seen}
 use Rattle.picture.specs.Refusals.{refusalOf}
 use Rattle.lent.specs.State.{State, freshState}
-use Rattle.transcript.specs.Replay.{Stopped, stopped, replayed}
+use Rattle.transcript.specs.Replay.{Stopped, stopped, endless, replayed}
 use Rattle.packed.specs.Packed.{packed}
 use Rattle.packed.specs.LinkPacked.{linkPacked}
 
@@ -42,5 +42,5 @@ reported s = report (s .ending .number) (s .ending .frame) (stateBytes (s .endin
 unfoldable pub freshReplay : Bool → Seen → List ℕ → List ℕ → List ℕ → List ℕ → Report
 freshReplay parallel e capture frame state last =
     if eqb (refusalOf (length frame) (length (e .half)) (length (e .full))) 0
-    then reported (stopped (replayed e capture (freshState parallel) frame 0))
+    then reported (stopped (replayed e endless capture (freshState parallel) frame 0))
     else report (refusalOf (length frame) (length (e .half)) (length (e .full))) frame state last

@@ -1,30 +1,27 @@
 -- Laws of a capture read through: a record, then what comes after it; a part of whole records, then the next part.
-use Prim.Native.Nat.{ℕ, _+_, _%_}
+use Prim.Native.Nat.{ℕ, _+_, _%_, _≤_}
 use mathlib.Core.List.{List, [], _∷_, _++_}
 use mathlib.Core.Path.{_≡_, refl, ap, _∙_}
-use native.Mathlib.Nat.{zero-add}
+use native.Mathlib.Nat.{min-eq-left}
 use native.Mathlib.Omega.{arith}
-use lib.ListN.{length, drop}
+use lib.ListN.{length, drop, length-drop}
 use lib.Seq.{drop-drop}
 use denote.Ref.{RefT, now}
 use Rattle.capture.specs.declared.Answer.{Answer}
 use Rattle.capture.specs.declared.Answer.the-variants.{Record, Short, WrongMark, WrongKind, WrongValue, End}
 use Rattle.capture.specs.Record.{answer}
-use Rattle.capture.specs.Part.{lent, from}
-use Rattle.capture.specs.Capture.{answerAt, passed, rest, Contents, stopped, followed, goesOn, contents}
-use Rattle.capture.proofs.Answers.{answer-of-front, four-are-no-end}
+use Rattle.capture.specs.Part.{from}
+use Rattle.capture.specs.Capture.{answerAt, passed, partFrom, stepAt, Contents, stopped, followed, goesOn, contents}
+use Rattle.capture.proofs.Answers.{answer-of-front, four-are-no-end, record-within}
 
--- what a record leaves is all but its four bytes
-pub rest-after-record : (s : RefT (List ℕ)) {kind value : ℕ} → answer (now s) ≡ Record kind value → rest s ≡ from 4 s
-rest-after-record s h = ap (λ (a : Answer). from (passed a) s) h
-
--- where there is no record, all is left
-pub rest-where-none : (s : RefT (List ℕ)) → passed (answer (now s)) ≡ 0 → rest s ≡ lent s
-rest-where-none s h = rw h (rw zero-add)
-
--- reading what the record at a position leaves is reading four bytes further on
-pub answer-after-record : (c : List ℕ) (at : ℕ) → answer (drop 4 (drop at c)) ≡ answerAt c (at + 4)
-answer-after-record c at = ap answer (drop-drop 4 at c)
+-- a record read leaves the rest of the caller's own capture, beginning after it
+pub rest-after-record :
+    (s : RefT (List ℕ)) (at : ℕ) {kind value : ℕ}
+    → answerAt (now s) at ≡ Record kind value
+    → partFrom s (stepAt (now s) at .next) ≡ from (at + 4) s
+rest-after-record s at h =
+    let long : at + 4 ≤ length (now s) = omega (arith, record-within (drop at (now s)) h, length-drop at (now s)) in
+    ap (λ (a : Answer). partFrom s (at + passed a)) h ∙ ap (λ (k : ℕ). from k s) (min-eq-left long)
 
 -- one turn of a loop over the records
 pub contents-turn : (c : List ℕ) → contents c ≡ goesOn (answer c) (contents (drop 4 c))

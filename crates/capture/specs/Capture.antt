@@ -5,6 +5,7 @@ use lib.ListN.{length, drop}
 use denote.Ref.{RefT, now}
 use Rattle.capture.specs.declared.Answer.{Answer}
 use Rattle.capture.specs.declared.Answer.the-variants.{Record, Short, WrongMark, WrongKind, WrongValue, End}
+use Rattle.capture.specs.declared.Step.{Step}
 use Rattle.capture.specs.Record.{answer}
 use Rattle.capture.specs.Part.{Part, from}
 
@@ -17,11 +18,8 @@ passed WrongKind = 0
 passed WrongValue = 0
 passed End = 0
 
--- each record read leaves the rest of the caller's own capture, beginning after it; where there is no record, all is left
-abbrev pub rest : RefT (List ℕ) → Part
-rest s = from (passed (answer (now s))) s
-
--- the caller's own capture from a position on; a position past the end is the end
+-- the caller's own capture from a position on: each record read leaves the rest of it, beginning after the record
+-- (a position past the end is the end)
 abbrev pub partFrom : RefT (List ℕ) → ℕ → Part
 partFrom s at = from (min at (length (now s))) s
 
@@ -32,6 +30,10 @@ answerAt c at = answer (drop at c)
 -- the position after the record at a position; where there is no record, that position
 abbrev pub after : List ℕ → ℕ → ℕ
 after c at = at + passed (answerAt c at)
+
+-- what stands at a position, and the position from which the rest is read
+abbrev pub stepAt : List ℕ → ℕ → Step
+stepAt c at = record { answer = answerAt c at; next = after c at }
 
 -- a record's two numbers
 pub record Recorded : Type 0 where

@@ -1,10 +1,9 @@
 // Captures: the record at the beginning of a capture or at a position of it, and a reader that holds the capture it was lent.
 ghost use mathlib.Core.Path.{_≡_};
-ghost use lib.ListN.{drop};
 ghost use Rattle.capture.specs.Record.{marked, known, allowed, answer, number};
 ghost use Rattle.capture.specs.Part.{lent};
-ghost use Rattle.capture.specs.Capture.{passed, rest, partFrom, answerAt, after};
-ghost use Rattle.capture.specs.Reader.{over, found, moved, unread};
+ghost use Rattle.capture.specs.Capture.{passed, partFrom, stepAt};
+ghost use Rattle.capture.specs.Reader.{over, stepped};
 
 // What stands in a capture: a record with its two numbers, or why there is none.
 pub enum Answer {
@@ -95,14 +94,6 @@ pub fn read(capture: &[u8]) -> Answer
     Answer::Record { kind, value }
 }
 
-// The rest of the caller's own capture, beginning after its first record; all of it where it begins with none.
-pub fn rest(capture: &[u8]) -> &[u8]
-    ensures { λ r. ⌜ lent r ≡ rest (capture .entry) ⌝ }
-{
-    let start = read(capture).passed();
-    &capture[start..]
-}
-
 // The caller's own capture from a position on; a position past the end is the end.
 fn part_from(capture: &[u8], at: usize) -> &[u8]
     ensures { λ r. ⌜ lent r ≡ partFrom (capture .entry) at ⌝ }
@@ -114,22 +105,25 @@ fn part_from(capture: &[u8], at: usize) -> &[u8]
     &capture[at..]
 }
 
-// What stands at a position: `read` is given the part that begins there.
-fn read_at(capture: &[u8], at: usize) -> Answer
-    ensures { λ r. ⌜ r ≡ answer (drop at (now (capture .entry))) ⌝ }
-{
-    read(part_from(capture, at))
+// What stands at a position, and the position behind it: a record's four bytes further on, or the same where there is none.
+pub struct Step {
+    pub answer: Answer,
+    pub next: usize,
 }
 
-// The position after the record at a position, or that position where there is no record.
-fn after(capture: &[u8], at: usize) -> usize
-    ensures { λ r. ⌜ r ≡ after (now (capture .entry)) at ⌝ }
+// `read` is given the part that begins at the position.
+fn step_at(capture: &[u8], at: usize) -> Step
+    ensures { λ r. ⌜ r ≡ stepAt (now (capture .entry)) at ⌝ }
 {
-    at + read_at(capture, at).passed()
+    let answer = read(part_from(capture, at));
+    Step {
+        answer,
+        next: at + answer.passed(),
+    }
 }
 
-// A reader holds the capture that it was lent, and a position in it. Its methods only take it apart for a function on
-// the slice and the number, since each is proved by hand.
+// A reader holds the capture that it was lent, and a position in it. Its step only takes it apart for a function on
+// the slice and the number, since it is proved by hand.
 pub struct Reader<'a> {
     capture: &'a [u8],
     at: usize,
@@ -143,35 +137,18 @@ impl<'a> Reader<'a> {
         Reader { capture, at }
     }
 
-    // What stands at the reader's position.
-    pub fn read(self) -> Answer
-        ensures { λ r. ⌜ r ≡ found (self .entry) ⌝ }
+    // What stands at the reader's position, and where it reads next.
+    pub fn step(self) -> Step
+        ensures { λ r. ⌜ r ≡ stepped (self .entry) ⌝ }
     {
-        read_at(self.capture, self.at)
-    }
-
-    // The reader moved on by the record at its position, or left where it stood.
-    pub fn moved(self) -> Reader<'a>
-        ensures { λ r. ⌜ r ≡ moved (self .entry) ⌝ }
-    {
-        Reader {
-            capture: self.capture,
-            at: after(self.capture, self.at),
-        }
-    }
-
-    // The rest of the capture, from the reader's position on.
-    pub fn unread(self) -> &'a [u8]
-        ensures { λ r. ⌜ lent r ≡ unread (self .entry) ⌝ }
-    {
-        part_from(self.capture, self.at)
+        step_at(self.capture, self.at)
     }
 }
 
-// Reads the record at a position of a capture, by a reader over it. Whoever calls this has a plain slice and a number,
-// and needs no proof by hand.
-pub fn record_at(capture: &[u8], at: usize) -> Answer
-    ensures { λ r. ⌜ r ≡ answerAt (now (capture .entry)) at ⌝ }
+// One step of a reader over a capture, at a position of it. Whoever calls this has a plain slice and a number, and needs no
+// proof by hand.
+pub fn record_at(capture: &[u8], at: usize) -> Step
+    ensures { λ r. ⌜ r ≡ stepAt (now (capture .entry)) at ⌝ }
 {
-    Reader::over(capture, at).read()
+    Reader::over(capture, at).step()
 }

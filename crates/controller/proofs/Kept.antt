@@ -12,6 +12,10 @@ use Rattle.table.specs.declared.Target.the-variants.{Text, Glyph, Graphic}
 use Rattle.table.specs.declared.Instruction.{Instruction}
 use Rattle.table.specs.declared.Instruction.the-variants.{Ignored, Clear, Home, EntryMode, Display, MoveCursor, MoveDisplay, FunctionSet, GlyphAddress, TextAddress, Standby, SetSr, ToggleReverse, Scroll, GraphicAddress}
 use Rattle.table.specs.Table.{said}
+use Rattle.events.specs.declared.Transfer.{Transfer}
+use Rattle.events.specs.declared.Transfer.the-variants.{Instruct, Write, Status, Read}
+use Rattle.events.specs.declared.Deed.{Deed}
+use Rattle.events.specs.declared.Deed.the-variants as deed
 use Rattle.controller.specs.declared.Waiting.{Waiting}
 use Rattle.controller.specs.declared.Waiting.the-variants.{Nothing, Row}
 use Rattle.controller.specs.declared.Place.{Place}
@@ -22,7 +26,7 @@ use Rattle.controller.specs.Memories.{Memories, memories, freshMemories}
 use Rattle.controller.specs.State.{fresh, limit, RowInRange, InRange, Valid, Within}
 use Rattle.controller.specs.Instructions.{withWaiting, pointed, stepped, displayMoved, graphicAddressed, reverseToggled, scrolled, obeyed, clears, cleared, modes}
 use Rattle.controller.specs.Data.{stored, nextCounter, moved, shifts, movedOn, dummyRead}
-use Rattle.controller.specs.Transfers.{executed, written, readOut, statusRead}
+use Rattle.controller.specs.Transfers.{Acted, executed, written, readOut, statusRead, carriedOut, performed}
 use Rattle.controller.proofs.Within.{said-within}
 
 record PlaceIn (p : Place) : Type 0 where
@@ -211,3 +215,21 @@ readOut-valid m c v =
 pub statusRead-valid : (m : Memories) (c : Control) → Valid m c → Valid m (statusRead c .control)
 unfolding statusRead
 statusRead-valid m c v = v
+
+-- what a deed leaves is valid
+abbrev pub ActedValid : Acted → Type 0
+ActedValid a = Valid (a .memories) (a .done .control)
+
+module _ (m : Memories) (c : Control) (v : Valid m c) where
+  carriedOut-valid : (t : Transfer) → ActedValid (carriedOut m c t)
+  unfolding carriedOut
+  carriedOut-valid (Instruct byte) = executed-valid m c byte v
+  carriedOut-valid (Write byte) = written-valid m c byte v
+  carriedOut-valid Status = statusRead-valid m c v
+  carriedOut-valid Read = readOut-valid m c v
+
+  pub performed-valid : (d : Deed) → ActedValid (performed m c d)
+  unfolding performed
+  performed-valid deed.Nothing = v
+  performed-valid (deed.Whole t) = carriedOut-valid t
+  performed-valid (deed.Fresh pin) = fresh-valid

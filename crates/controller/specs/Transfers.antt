@@ -4,10 +4,15 @@ use mathlib.Core.List.{List}
 use Rattle.base.specs.Choice.{if_then_else_}
 use Rattle.table.specs.Table.{said}
 use Rattle.table.specs.declared.Instruction.{Instruction}
+use Rattle.events.specs.declared.Transfer.{Transfer}
+use Rattle.events.specs.declared.Transfer.the-variants.{Instruct, Write, Status, Read}
+use Rattle.events.specs.declared.Deed.{Deed}
+use Rattle.events.specs.declared.Deed.the-variants as deed
 use Rattle.controller.specs.declared.Control.{Control}
-use Rattle.controller.specs.declared.Region.the-variants.{Nothing}
+use Rattle.controller.specs.declared.Region.the-variants.{Nothing, Whole}
 use Rattle.controller.specs.declared.Done.{Done}
-use Rattle.controller.specs.Memories.{Memories}
+use Rattle.controller.specs.Memories.{Memories, memories, freshMemories}
+use Rattle.controller.specs.State.{fresh}
 use Rattle.controller.specs.Instructions.{obeyed, cleared, modes}
 use Rattle.controller.specs.Data.{stored, found, movedOn, dummyRead}
 use Rattle.controller.specs.Named.{instructionNames, writeNames, readNames}
@@ -51,3 +56,24 @@ readOut m c =
 -- a status read: busy bit 0, bit 6 zero, the counter; it changes nothing and names none
 unfoldable pub statusRead : Control → Done
 statusRead c = record { control = c; reply = c .place .counter; region = Nothing }
+
+-- an instruction can change the text alone
+abbrev pub withText : Memories → Instructed → Acted
+withText m i = acted (memories (i .text) (m .glyph) (m .graphic)) (i .done)
+
+-- a whole transfer
+unfoldable pub carriedOut : Memories → Control → Transfer → Acted
+carriedOut m c (Instruct byte) = withText m (executed (m .text) c byte)
+carriedOut m c (Write byte) = written m c byte
+carriedOut m c Status = acted m (statusRead c)
+carriedOut m c Read = acted m (readOut m c)
+
+-- everything as fresh, and every byte is named
+abbrev pub restarted : Acted
+restarted = acted freshMemories (record { control = fresh; reply = 0; region = Whole })
+
+-- what of an event reaches the controller: nothing, and the state stays; a whole transfer; or reset
+unfoldable pub performed : Memories → Control → Deed → Acted
+performed m c deed.Nothing = acted m (record { control = c; reply = 0; region = Nothing })
+performed m c (deed.Whole t) = carriedOut m c t
+performed m c (deed.Fresh pin) = restarted

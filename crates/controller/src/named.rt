@@ -25,7 +25,7 @@ pub fn image(high: u8, low: u8) -> Image
 }
 
 // The counter's cell, where the target is text.
-fn counter_cell(place: Place) -> Cell
+pub fn counter_cell(place: Place) -> Cell
     ensures { λ r. ⌜ r ≡ counterCell place ⌝ }
 {
     let target = place.target;

@@ -8,12 +8,14 @@ use crate::instructions::clears;
 use crate::named::instruction_names;
 use crate::named::read_names;
 use crate::named::write_names;
+use events::Deed;
+use events::Transfer;
 use table::Instruction;
 ghost use mathlib.Core.Path.{_≡_};
 ghost use Rattle.controller.specs.Memories.{before, after};
 ghost use Rattle.controller.specs.State.{InRange};
 ghost use Rattle.controller.specs.Instructions.{cleared};
-ghost use Rattle.controller.specs.Transfers.{acted, instructed, executed, written, readOut, statusRead};
+ghost use Rattle.controller.specs.Transfers.{acted, instructed, executed, written, readOut, statusRead, carriedOut, restarted, performed};
 
 // Clear fills the text; no other instruction touches a memory.
 fn clear(text: &mut [u8; 128], instruction: Instruction)
@@ -96,5 +98,60 @@ pub fn status(control: Control) -> Done
         control,
         reply: control.place.counter,
         region: Region::Nothing,
+    }
+}
+
+// A whole transfer.
+fn carry_out(
+    text: &mut [u8; 128],
+    glyph: &mut [u8; 128],
+    graphic: &mut [u8; 2048],
+    control: Control,
+    transfer: Transfer,
+) -> Done
+    requires { ⌜ InRange control ⌝ }
+    ensures { λ r. ⌜ acted (after text glyph graphic) r ≡ carriedOut (before text glyph graphic) control transfer ⌝ }
+{
+    match transfer {
+        Transfer::Instruct(byte) => execute(text, control, byte),
+        Transfer::Write(byte) => write(text, glyph, graphic, control, byte),
+        Transfer::Status => status(control),
+        Transfer::Read => read(text, glyph, graphic, control),
+    }
+}
+
+// Everything as fresh.
+fn restart(text: &mut [u8; 128], glyph: &mut [u8; 128], graphic: &mut [u8; 2048]) -> Done
+    ensures { λ r. ⌜ acted (after text glyph graphic) r ≡ restarted ⌝ }
+{
+    *text = [0x20u8; 128];
+    *glyph = [0u8; 128];
+    *graphic = [0u8; 2048];
+    Done {
+        control: Control::fresh(),
+        reply: 0,
+        region: Region::Whole,
+    }
+}
+
+// What of an event reaches the controller.
+pub fn perform(
+    text: &mut [u8; 128],
+    glyph: &mut [u8; 128],
+    graphic: &mut [u8; 2048],
+    control: Control,
+    deed: Deed,
+) -> Done
+    requires { ⌜ InRange control ⌝ }
+    ensures { λ r. ⌜ acted (after text glyph graphic) r ≡ performed (before text glyph graphic) control deed ⌝ }
+{
+    match deed {
+        Deed::Nothing => Done {
+            control,
+            reply: 0,
+            region: Region::Nothing,
+        },
+        Deed::Whole(transfer) => carry_out(text, glyph, graphic, control, transfer),
+        Deed::Fresh(_) => restart(text, glyph, graphic),
     }
 }

@@ -9,36 +9,40 @@ use Rattle.base.specs.Choice.{if_then_else_}
 use Rattle.base.proofs.Choice.{by-test}
 use Rattle.controller.specs.declared.Control.{Control}
 use Rattle.controller.specs.Memories.{Memories}
+use Rattle.events.specs.declared.Event.{Event}
+use Rattle.events.specs.declared.Event.the-variants.{Transfer, Bit, SelectLow, Reset}
 use Rattle.links.specs.declared.Link.{Link}
 use Rattle.links.specs.declared.Link.the-variants.{Parallel, Serial}
+use Rattle.links.specs.declared.Taken.{Taken}
+use Rattle.links.specs.declared.Taken.the-variants.{OtherLink, Carries}
+use Rattle.links.specs.Taken.{takenBy}
 use Rattle.picture.specs.Picture.{Seen}
 use Rattle.picture.specs.Refusals.{refusalOf, drawn}
 use Rattle.lent.specs.State.{State}
-use Rattle.lent.specs.Calls.{Call, transfer, bit, selectLow, reset, Taken, otherLink, taken, takenBy, unlessOther, called}
-use Rattle.transcript.proofs.Refused.{called-unmoved}
+use Rattle.lent.specs.Calls.{unlessOther, takenOn, called}
+use Rattle.lent.proofs.Kept.{called-unmoved}
 use Rattle.demands.specs.Demand1.{TableSays, ofOtherLink, CallRefuses, DrawRefuses}
 use Rattle.demands.proofs.Tables.{orOther, table-says}
 
 abbrev isOther : Taken → Bool
-isOther otherLink = true
-isOther (taken x) = false
+isOther OtherLink = true
+isOther (Carries c) = false
 
-other-taken : (m : Memories) (c : Control) (l : Link) (call : Call) → isOther (takenBy m c l call) ≡ ofOtherLink l call
+other-taken : (dl : Bool) (l : Link) (call : Event) → isOther (takenBy dl l call) ≡ ofOtherLink l call
 unfolding takenBy
-other-taken m c (Parallel pairing) (transfer t) = refl
-other-taken m c (Serial receiver) (transfer t) = refl
-other-taken m c (Parallel pairing) (bit b) = refl
-other-taken m c (Serial receiver) (bit b) = refl
-other-taken m c (Parallel pairing) selectLow = refl
-other-taken m c (Serial receiver) selectLow = refl
-other-taken m c (Parallel pairing) (reset parallel) = refl
-other-taken m c (Serial receiver) (reset parallel) = refl
+other-taken dl (Parallel pairing) (Transfer t) = refl
+other-taken dl (Serial receiver) (Transfer t) = refl
+other-taken dl (Parallel pairing) (Bit b) = refl
+other-taken dl (Serial receiver) (Bit b) = refl
+other-taken dl (Parallel pairing) SelectLow = refl
+other-taken dl (Serial receiver) SelectLow = refl
+other-taken dl l (Reset pin) = refl
 
 other-number : (e : Seen) (s : State) (frame : List ℕ) (t : Taken) → unlessOther e s frame t .number ≡ (if isOther t then 5 else 0)
-other-number e s frame otherLink = refl
-other-number e s frame (taken x) = refl
+other-number e s frame OtherLink = refl
+other-number e s frame (Carries c) = refl
 
-module _ (e : Seen) (s : State) (frame : List ℕ) (call : Call) where
+module _ (e : Seen) (s : State) (frame : List ℕ) (call : Event) where
   pub call-number :
       called e s frame call .number
       ≡ orOther (ofOtherLink (s .link) call) (refusalOf (length frame) (length (e .half)) (length (e .full)))
@@ -46,8 +50,8 @@ module _ (e : Seen) (s : State) (frame : List ℕ) (call : Call) where
   call-number =
       by-test (eqb (refusalOf (length frame) (length (e .half)) (length (e .full))) 0)
       (λ t. rw t
-      (other-number e s frame (takenBy (s .memories) (s .control) (s .link) call)
-      ∙ ap (λ (b : Bool). if b then 5 else 0) (other-taken (s .memories) (s .control) (s .link) call)))
+      (other-number e s frame (takenOn s call)
+      ∙ ap (λ (b : Bool). if b then 5 else 0) (other-taken (s .control .function .dl) (s .link) call)))
       (λ t. rw t)
 
   pub call-refuses : CallRefuses e s frame call

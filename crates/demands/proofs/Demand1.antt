@@ -1,8 +1,11 @@
 -- Demand 1, from its parts.
+use Rattle.transcript.proofs.Endless.{not-full}
+use Rattle.transcript.proofs.Parts.{parts-replay-as-whole}
+use Rattle.transcript.proofs.Roomy.{room-tells-all}
 use Rattle.demands.specs.Demand1.{Demand1}
 use Rattle.demands.proofs.Tables.{table-once, send-refuses, send-once, record-says, record-once}
 use Rattle.demands.proofs.Calls.{call-refuses, draw-refuses}
-use Rattle.demands.proofs.Replays.{replay-stops, transcript-refuses, exported-replay-refuses}
+use Rattle.demands.proofs.Replays.{replay-stops, transcript-refuses, transcript-tells, exported-replay-refuses}
 
 pub demand-1 : Demand1
 demand-1 =
@@ -12,7 +15,11 @@ demand-1 =
       sends = send-refuses;
       captures = record-says;
       replays = replay-stops;
+      neverFull = not-full;
+      parts = parts-replay-as-whole;
       transcripts = transcript-refuses;
+      tells = transcript-tells;
+      tellsAll = room-tells-all;
       exportedReplays = exported-replay-refuses;
       oneNumberForCalls = table-once;
       oneNumberForSends = send-once;

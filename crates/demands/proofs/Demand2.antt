@@ -1,16 +1,31 @@
 -- Demand 2, from the laws of the links and of all sequences of calls.
 use mathlib.Core.List.{List, [], _∷_}
-use mathlib.Core.Path.{refl, ap, _∙_}
+use Prim.Native.Nat.{ℕ}
+use mathlib.Core.Bool.{false}
+use mathlib.Core.Path.{_≡_, refl, ap, _∙_}
 use lib.ListN.{length}
 use borrow.Author.Tests.{le-ltb}
+use Rattle.base.proofs.Counting.{count-none}
+use Rattle.base.proofs.Painting.{painted-none}
+use Rattle.controller.specs.Named.{covers}
+use Rattle.controller.specs.Transfers.{performed}
+use Rattle.events.specs.declared.Event.the-variants.{SelectLow}
+use Rattle.links.specs.declared.Link.{Link}
+use Rattle.links.specs.declared.Link.the-variants.{Serial}
+use Rattle.links.specs.declared.Receiver.{Receiver}
+use Rattle.links.specs.Idle.{idle}
+use Rattle.links.specs.Taken.{takenBy}
+use Rattle.picture.specs.Picture.{Seen}
+use Rattle.repaint.specs.Repaint.{repainted, countNamed, named}
+use Rattle.lent.specs.State.{State, state}
+use Rattle.lent.proofs.Kept.{admitted, reset-fresh}
 use Rattle.links.specs.Sender.{sent}
 use Rattle.picture.proofs.Accepted.{draws}
-use Rattle.lent.specs.Calls.{Called}
-use Rattle.sequences.proofs.Connected.{transfer-is-connected, bit-is-connected}
-use Rattle.sequences.proofs.Agreement.{sent-is-received, writes-are-received, links-agree}
+use Rattle.lent.specs.Calls.{Called, unlessOther}
+use Rattle.sequences.proofs.Agreement.{call-is-connected, sent-is-received, writes-are-received, links-agree}
 use Rattle.sequences.proofs.KeepDl.{function-sets-keep-dl}
 use Rattle.panel.specs.Handed.{handed}
-use Rattle.demands.specs.Demand2.{Run, yielded, SequencesAsDefined, SendsThreeBytes, Demand2}
+use Rattle.demands.specs.Demand2.{Run, yielded, SequencesAsDefined, SelectLowIdles, SendsThreeBytes, Demand2}
 use Rattle.demands.proofs.Replies.{replies-to-reads}
 
 sequences-as-defined : SequencesAsDefined
@@ -27,13 +42,26 @@ sends-three-bytes : SendsThreeBytes
 unfolding sent
 sends-three-bytes register byte buffer h = rw (le-ltb (length buffer) 3 h)
 
+taken-low :
+    (e : Seen) (s : State) (frame : List ℕ) (l : Link) (receiver : Receiver)
+    → l ≡ Serial receiver
+    → unlessOther e s frame (takenBy (s .control .function .dl) l SelectLow)
+    ≡ record { state = state (s .memories) (s .control) (idle false); number = 0; reply = 0; count = 0; frame = frame }
+unfolding takenBy performed repainted countNamed named covers
+taken-low e s frame l receiver h =
+    rw (h, painted-none _ _ frame (λ i q. refl), count-none 1024 _ (λ i q. refl))
+
+select-low-idles : SelectLowIdles
+select-low-idles e s frame receiver fits h = admitted e s frame SelectLow fits ∙ taken-low e s frame (s .link) receiver h
+
 pub demand-2 : Demand2
 demand-2 =
     record {
-      transfers = transfer-is-connected;
-      bits = bit-is-connected;
+      calls = call-is-connected;
       sequences = sequences-as-defined;
       replies = replies-to-reads;
+      resets = reset-fresh;
+      selectLow = select-low-idles;
       draws = draws;
       sends = sends-three-bytes;
       receives = sent-is-received;

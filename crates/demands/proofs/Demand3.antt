@@ -1,53 +1,56 @@
 -- Demand 3, from the laws of one call: what it names becomes the picture's, and what it does not name keeps its byte in frame and picture.
-use Prim.Native.Nat.{ℕ, _<_, _/_, _%_}
-use mathlib.Core.Bool.{false}
+use Prim.Native.Nat.{ℕ, _≤_, _<_, _/_, _%_}
+use mathlib.Core.Bool.{Bool, false}
 use mathlib.Core.List.{List, [], _∷_}
 use mathlib.Core.Path.{_≡_, refl, sym, _∙_}
 use native.Mathlib.Omega.{arith}
+use lib.Dec.{eqb}
 use lib.ListN.{length, getD}
-use borrow.Author.Tests.{eq-eqb}
 use Rattle.base.specs.Choice.{if_then_else_}
 use Rattle.base.specs.Painting.{count}
-use Rattle.base.proofs.Choice.{by-test}
+use Rattle.base.proofs.Choice.{either, by-test}
 use Rattle.base.proofs.Counting.{count-none}
 use Rattle.base.proofs.Painting.{painted-at}
 use Rattle.base.proofs.Tests.{or-neither}
-use Rattle.picture.specs.Picture.{Seen}
+use Rattle.table.specs.declared.Target.the-variants.{Glyph, Graphic}
+use Rattle.controller.specs.declared.Control.{Control}
+use Rattle.controller.specs.Memories.{Memories}
+use Rattle.controller.specs.Named.{covers, writeNames}
+use Rattle.controller.specs.Transfers.{written, carriedOut, performed}
+use Rattle.events.specs.declared.Event.{Event}
+use Rattle.events.specs.declared.Deed.the-variants.{Whole}
+use Rattle.events.specs.declared.Transfer.the-variants.{Write}
+use Rattle.links.specs.declared.Taken.{Taken}
+use Rattle.links.specs.declared.Taken.the-variants.{OtherLink, Carries}
+use Rattle.picture.specs.Picture.{Seen, fontsOf, lookOf}
 use Rattle.picture.specs.Refusals.{refusalOf}
+use Rattle.repaint.proofs.Counts.{count-glyph, count-graphic}
 use Rattle.picture.proofs.CellRows.{picture-at}
 use Rattle.picture.proofs.Accepted as sizes
 use Rattle.repaint.specs.Repaint.{named, repainted, countNamed}
 use Rattle.lent.specs.State.{State, Valid}
-use Rattle.lent.specs.Calls.{Call, Taken, otherLink, taken, takenBy, unlessOther, called, after}
-use Rattle.lent.proofs.Kept.{fresh-state-valid, called-valid}
-use Rattle.sequences.specs.Wires.{Fits}
-use Rattle.sequences.proofs.Repainted.{TakenKept, taken-unnamed}
-use Rattle.sequences.proofs.Bounded.{called-count}
+use Rattle.lent.specs.Calls.{Called, unlessOther, takenOn, reaching, Fits, called, after}
+use Rattle.lent.proofs.Kept.{fresh-state-valid, called-valid, admitted, still-fits}
+use Rattle.sequences.proofs.Repainted.{performed-unnamed}
+use Rattle.sequences.proofs.Bounded.{countOf, called-count}
 use Rattle.sequences.proofs.Sequences.{after-valid, after-shows}
-use Rattle.transcript.proofs.Refused.{called-length}
-use Rattle.demands.specs.Demand3.{pictureOf, namedTaken, namedBy, everNamed, PictureStands, NamedBytesShown, CountIsNumber, Demand3}
+use Rattle.demands.specs.Demand3.{pictureOf, namedActed, namedBy, everNamed, PictureStands, NamedBytesShown, CountIsNumber, GlyphAtMost32, GraphicAtMost1, Demand3}
 
 picture-stands : PictureStands
 picture-stands e s calls v = after-shows e s (pictureOf e s) calls v refl
 
-taken-counts : (e : Seen) (s : State) (frame : List ℕ) (t : Taken) → unlessOther e s frame t .count ≡ count 1024 (namedTaken t)
-unfolding countNamed
-taken-counts e s frame otherLink = sym (count-none 1024 (λ i. false) (λ i h. refl))
-taken-counts e s frame (taken x) = refl
+-- by what the link makes of a call
+abbrev namedTaken : State → Taken → ℕ → Bool
+namedTaken s t = namedActed (performed (s .memories) (s .control) (reaching t))
 
-admitted :
-    (e : Seen) (s : State) (frame : List ℕ) (call : Call)
-    → Fits e frame
-    → called e s frame call ≡ unlessOther e s frame (takenBy (s .memories) (s .control) (s .link) call)
-unfolding called
-admitted e s frame call fits = rw (eq-eqb (refusalOf (length frame) (length (e .half)) (length (e .full))) 0 fits)
+taken-counts : (e : Seen) (s : State) (frame : List ℕ) (t : Taken) → unlessOther e s frame t .count ≡ count 1024 (namedTaken s t)
+unfolding countNamed performed named covers
+taken-counts e s frame OtherLink = sym (count-none 1024 _ (λ i h. refl))
+taken-counts e s frame (Carries c) = refl
 
 count-is-number : CountIsNumber
 count-is-number e s frame call fits =
-    rw (admitted e s frame call fits) (taken-counts e s frame (takenBy (s .memories) (s .control) (s .link) call))
-
-still-fits : (e : Seen) (s : State) (frame : List ℕ) (call : Call) → Fits e frame → Fits e (called e s frame call .frame)
-still-fits e s frame call fits = rw (called-length e s frame call) fits
+    rw (admitted e s frame call fits) (taken-counts e s frame (takenOn s call))
 
 -- what one call leaves of the byte at a place of the frame
 taken-shows :
@@ -55,44 +58,45 @@ taken-shows :
     → length frame ≡ 1024
     → i < 1024
     → getD (unlessOther e s frame t .frame) i 0
-    ≡ (if namedTaken t i then getD (pictureOf e (unlessOther e s frame t .state)) i 0 else getD frame i 0)
-unfolding repainted
-taken-shows e s frame otherLink i l h = refl
-taken-shows e s frame (taken x) i l h =
-    rw (picture-at e (x .acted .memories) (x .acted .done .control) i h) (painted-at _ _ frame i (rw l h))
+    ≡ (if namedTaken s t i then getD (pictureOf e (unlessOther e s frame t .state)) i 0 else getD frame i 0)
+unfolding repainted performed named covers
+taken-shows e s frame OtherLink i l h = refl
+taken-shows e s frame (Carries c) i l h =
+    let a = performed (s .memories) (s .control) (c .deed) in
+    rw (picture-at (fontsOf e) (a .memories) (lookOf (e .phase) (a .done .control)) i h) (painted-at _ _ frame i (rw l h))
 
 -- and of the picture's byte there, where it is not named
 taken-keeps :
     (e : Seen) (s : State) (frame : List ℕ) (t : Taken) (i : ℕ)
-    → TakenKept e (s .memories) (s .control) t
+    → Valid s
     → i < 1024
-    → namedTaken t i ≡ false
+    → namedTaken s t i ≡ false
     → getD (pictureOf e (unlessOther e s frame t .state)) i 0 ≡ getD (pictureOf e s) i 0
 unfolding named
-taken-keeps e s frame otherLink i k h u = refl
-taken-keeps e s frame (taken x) i k h u =
-    picture-at e (x .acted .memories) (x .acted .done .control) i h
-    ∙ k (i / 32) (i % 32) (omega arith) u
-    ∙ sym (picture-at e (s .memories) (s .control) i h)
+taken-keeps e s frame OtherLink i v h u = refl
+taken-keeps e s frame (Carries c) i v h u =
+    let a = performed (s .memories) (s .control) (c .deed) in
+    picture-at (fontsOf e) (a .memories) (lookOf (e .phase) (a .done .control)) i h
+    ∙ performed-unnamed e (s .memories) (s .control) (v .control) (c .deed) (i / 32) (i % 32) (omega arith) u
+    ∙ sym (picture-at (fontsOf e) (s .memories) (lookOf (e .phase) (s .control)) i h)
 
-module _ (e : Seen) (s : State) (frame : List ℕ) (call : Call) (i : ℕ) (fits : Fits e frame) (h : i < 1024) where
+module _ (e : Seen) (s : State) (frame : List ℕ) (call : Event) (i : ℕ) (fits : Fits e frame) (h : i < 1024) where
   call-shows :
       getD (called e s frame call .frame) i 0
       ≡ (if namedBy s call i then getD (pictureOf e (called e s frame call .state)) i 0 else getD frame i 0)
   call-shows =
       rw (admitted e s frame call fits)
-      (taken-shows e s frame (takenBy (s .memories) (s .control) (s .link) call) i
+      (taken-shows e s frame (takenOn s call) i
       (sizes.accepted (length frame) (length (e .half)) (length (e .full)) fits .frame) h)
 
   call-keeps : Valid s → namedBy s call i ≡ false → getD (pictureOf e (called e s frame call .state)) i 0 ≡ getD (pictureOf e s) i 0
   call-keeps v u =
       rw (admitted e s frame call fits)
-      (taken-keeps e s frame (takenBy (s .memories) (s .control) (s .link) call) i
-      (taken-unnamed e (s .memories) (s .control) (s .link) call (v .control)) h u)
+      (taken-keeps e s frame (takenOn s call) i v h u)
 
 -- over a sequence, a place that no call names keeps its picture byte
 after-keeps :
-    (e : Seen) (s : State) (frame : List ℕ) (calls : List Call) (i : ℕ)
+    (e : Seen) (s : State) (frame : List ℕ) (calls : List Event) (i : ℕ)
     → Valid s
     → Fits e frame
     → i < 1024
@@ -122,6 +126,35 @@ named-bytes-shown e s frame (call ∷ calls) i v fits h =
     (λ n. rw (n, after-keeps e s' frame' calls i v' fits' h t) (rw t at on ∙ rw n at one))
     (λ n. rw (n, t) (rw t at on ∙ rw n at one)))
 
+-- glyph and graphic writes never shift the display, so S does not matter
+glyph-count : (m : Memories) (c : Control) (b : ℕ) → c .place .target ≡ Glyph → countOf (written m c b) ≤ 32
+unfolding written writeNames countNamed named covers
+glyph-count m c b h = rw h (count-glyph _ _ _ _)
+
+graphic-count : (m : Memories) (c : Control) (b : ℕ) → c .place .target ≡ Graphic → countOf (written m c b) ≤ 1
+unfolding written writeNames countNamed named covers
+graphic-count m c b h = rw h (count-graphic _ _ _ _)
+
+-- a bound on what reaches the controller is a bound on the call
+module _ (e : Seen) (s : State) (frame : List ℕ) (byte n : ℕ) (h : countOf (written (s .memories) (s .control) byte) ≤ n) where
+  reached-write : (t : Taken) → reaching t ≡ Whole (Write byte) → unlessOther e s frame t .count ≤ n
+  unfolding performed carriedOut
+  reached-write OtherLink k = omega arith
+  reached-write (Carries c) k = rw k h
+
+  called-write : (call : Event) → reaching (takenOn s call) ≡ Whole (Write byte) → called e s frame call .count ≤ n
+  unfolding called
+  called-write call k =
+      either (λ (x : Called). x .count ≤ n) (eqb (refusalOf (length frame) (length (e .half)) (length (e .full))) 0)
+      (reached-write (takenOn s call) k)
+      (omega arith)
+
+glyph-at-most-32 : GlyphAtMost32
+glyph-at-most-32 e s frame call byte k t = called-write e s frame byte 32 (glyph-count (s .memories) (s .control) byte t) call k
+
+graphic-at-most-1 : GraphicAtMost1
+graphic-at-most-1 e s frame call byte k t = called-write e s frame byte 1 (graphic-count (s .memories) (s .control) byte t) call k
+
 pub demand-3 : Demand3
 demand-3 =
     record {
@@ -129,6 +162,8 @@ demand-3 =
       shown = named-bytes-shown;
       counts = count-is-number;
       bounded = called-count;
+      glyphBounded = glyph-at-most-32;
+      graphicBounded = graphic-at-most-1;
       begins = fresh-state-valid;
       valid = after-valid;
     }

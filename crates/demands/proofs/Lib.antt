@@ -6,4 +6,5 @@ pub mod Replies
 pub mod Demand2
 pub mod Demand3
 pub mod Readings
+pub mod ReadBack
 pub mod Tight

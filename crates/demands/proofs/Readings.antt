@@ -5,7 +5,6 @@ use mathlib.Core.List.{List, [], _∷_, map}
 use mathlib.Core.Logic.{_⊎_, inl, inr}
 use mathlib.Core.Path.{_≡_, refl, ap, sym, subst, _∙_}
 use lib.ListN.{length, replicate}
-use borrow.Author.Tests.{eq-eqb}
 use Rattle.base.specs.Painting.{count}
 use Rattle.table.specs.Table.{rowOf, said}
 use Rattle.controller.specs.Memories.{freshMemories}
@@ -14,7 +13,11 @@ use Rattle.controller.specs.Instructions.{obeyed}
 use Rattle.controller.specs.Data.{stored, found, moved, movedOn}
 use Rattle.controller.specs.Glass.{shownRow, shownWord}
 use Rattle.controller.specs.Named.{instructionNames, writeNames, readNames, inCell, covers}
-use Rattle.controller.specs.Transfers.{executed, written, readOut, statusRead}
+use Rattle.controller.specs.Transfers.{executed, written, readOut, statusRead, carriedOut, performed}
+use Rattle.events.specs.declared.Event.{Event}
+use Rattle.links.specs.declared.Taken.{Taken}
+use Rattle.links.specs.declared.Taken.the-variants.{OtherLink, Carries}
+use Rattle.links.specs.Taken.{byWidth, takenBy}
 use Rattle.links.specs.Items.{bitsOf}
 use Rattle.links.specs.Serial.{counted, afterHeader, headerBit, bodyBit, completed, heard}
 use Rattle.glyph.specs.Numbering.{numberOf}
@@ -22,70 +25,59 @@ use Rattle.picture.specs.Picture.{Seen}
 use Rattle.picture.specs.Refusals.{refusalOf}
 use Rattle.repaint.specs.Repaint.{named, countNamed}
 use Rattle.lent.specs.State.{State, state, freshState}
-use Rattle.steps.specs.Steps.{carriedOut, transferStep, bitStep}
-use Rattle.lent.specs.Calls.{Call, Taken, otherLink, taken, takenBy, Called, unlessOther, called, after}
-use Rattle.sequences.specs.Wires.{Fits, answers}
-use Rattle.transcript.proofs.Refused.{called-length}
+use Rattle.lent.specs.Calls.{Called, accepted, unlessOther, takenOn, Fits, called, after}
+use Rattle.sequences.specs.Wires.{answers}
+use Rattle.lent.proofs.Kept.{admitted, still-fits}
 use Rattle.demands.specs.Readings.{Row, table, zeroFonts, Observed, observed, AllRead, AllHold, ReadingsHold}
 
 -- what a call leaves but the frame
-record Told : Type 0 where
-  state : State
-  number : ℕ
-  reply : ℕ
-  count : ℕ
+pub record Told : Type 0 where
+  pub state : State
+  pub number : ℕ
+  pub reply : ℕ
+  pub count : ℕ
 
-abbrev told : Called → Told
+abbrev pub told : Called → Told
 told k = record { state = k .state; number = k .number; reply = k .reply; count = k .count }
 
-abbrev toldBy : State → Taken → Told
-toldBy s otherLink = record { state = s; number = 5; reply = 0; count = 0 }
-toldBy s (taken x) =
-    record {
-      state = state (x .acted .memories) (x .acted .done .control) (x .link);
-      number = 0;
-      reply = x .acted .done .reply;
-      count = countNamed (x .acted .memories) (x .acted .done .control) (x .acted .done .region);
-    }
+abbrev pub toldBy : State → Taken → Told
+toldBy s OtherLink = record { state = s; number = 5; reply = 0; count = 0 }
+toldBy s (Carries c) = told (accepted zeroFonts [] (performed (s .memories) (s .control) (c .deed)) (c .rest))
 
-tells : State → Call → Told
-tells s call = toldBy s (takenBy (s .memories) (s .control) (s .link) call)
+unfoldable pub tells : State → Event → Told
+tells s call = toldBy s (takenOn s call)
 
-allTold : State → List Call → List Told
+allTold : State → List Event → List Told
 allTold s [] = []
 allTold s (call ∷ calls) = tells s call ∷ allTold (tells s call .state) calls
 
-lastState : State → List Call → State
+lastState : State → List Event → State
 lastState s [] = s
 lastState s (call ∷ calls) = lastState (tells s call .state) calls
 
 taken-told : (e : Seen) (s : State) (frame : List ℕ) (t : Taken) → told (unlessOther e s frame t) ≡ toldBy s t
-taken-told e s frame otherLink = refl
-taken-told e s frame (taken x) = refl
+taken-told e s frame OtherLink = refl
+taken-told e s frame (Carries c) = refl
 
 module _ (e : Seen) where
-  call-told : (s : State) (frame : List ℕ) (call : Call) → Fits e frame → told (called e s frame call) ≡ tells s call
-  unfolding called tells
+  pub call-told : (s : State) (frame : List ℕ) (call : Event) → Fits e frame → told (called e s frame call) ≡ tells s call
+  unfolding tells
   call-told s frame call fits =
-      rw (eq-eqb (refusalOf (length frame) (length (e .half)) (length (e .full))) 0 fits)
-      (taken-told e s frame (takenBy (s .memories) (s .control) (s .link) call))
+      ap told (admitted e s frame call fits) ∙ taken-told e s frame (takenOn s call)
 
-  still-fits : (s : State) (frame : List ℕ) (call : Call) → Fits e frame → Fits e (called e s frame call .frame)
-  still-fits s frame call fits = rw (called-length e s frame call) fits
-
-  all-told : (calls : List Call) (s : State) (frame : List ℕ) → Fits e frame → map told (answers e s frame calls) ≡ allTold s calls
+  all-told : (calls : List Event) (s : State) (frame : List ℕ) → Fits e frame → map told (answers e s frame calls) ≡ allTold s calls
   unfolding answers allTold
   all-told [] s frame fits = refl
   all-told (call ∷ calls) s frame fits =
       ap (λ (more : List Told). told (called e s frame call) ∷ more)
-      (all-told calls (called e s frame call .state) (called e s frame call .frame) (still-fits s frame call fits))
+      (all-told calls (called e s frame call .state) (called e s frame call .frame) (still-fits e s frame call fits))
       ∙ ap (λ (k : Told). k ∷ allTold (k .state) calls) (call-told s frame call fits)
 
-  last-state : (calls : List Call) (s : State) (frame : List ℕ) → Fits e frame → after e s frame calls .state ≡ lastState s calls
+  last-state : (calls : List Event) (s : State) (frame : List ℕ) → Fits e frame → after e s frame calls .state ≡ lastState s calls
   unfolding after lastState
   last-state [] s frame fits = refl
   last-state (call ∷ calls) s frame fits =
-      last-state calls (called e s frame call .state) (called e s frame call .frame) (still-fits s frame call fits)
+      last-state calls (called e s frame call .state) (called e s frame call .frame) (still-fits e s frame call fits)
       ∙ ap (λ (k : Told). lastState (k .state) calls) (call-told s frame call fits)
 
 map-told : {B : Type 0} (f : Told → B) (ks : List Called) → map (λ k. f (told k)) ks ≡ map f (map told ks)
@@ -129,7 +121,7 @@ all-hold [] h = tt
 all-hold (r ∷ rows) h = (holds r (h .0), all-hold rows (h .1))
 
 rows-hold : AllRows table
-unfolding AllRows Holds AllRead table allTold lastState tells answers called takenBy transferStep bitStep carriedOut executed written readOut statusRead obeyed said rowOf stored found moved movedOn instructionNames writeNames readNames covers inCell shownRow shownWord named countNamed count refusalOf fresh freshMemories freshState bitsOf heard counted afterHeader headerBit bodyBit completed numberOf
+unfolding AllRows Holds AllRead table allTold lastState tells answers called takenBy byWidth performed carriedOut executed written readOut statusRead obeyed said rowOf stored found moved movedOn instructionNames writeNames readNames covers inCell shownRow shownWord named countNamed count refusalOf fresh freshMemories freshState bitsOf heard counted afterHeader headerBit bodyBit completed numberOf
 rows-hold = (
   inl (refl, (refl, tt)),
   (

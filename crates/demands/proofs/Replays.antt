@@ -4,33 +4,39 @@ use mathlib.Core.Bool.{Bool, true, false, not, true≢false}
 use mathlib.Core.List.{List, [], _∷_, _++_, map, flatten}
 use mathlib.Core.Logic.{_≢_}
 use mathlib.Core.Path.{_≡_, refl, sym, ap, _∙_}
+use native.Mathlib.Nat.{add-zero}
 use native.Mathlib.Omega.{arith}
 use lib.ListN.{length, take, replicate}
 use lib.Dec.{eqb}
 use borrow.Author.Tests.{eqb-true, eqb-false, eq-eqb, not-false}
 use Rattle.base.specs.Choice.{if_then_else_}
 use Rattle.base.specs.Bits as bits
-use Rattle.base.proofs.Choice.{by-test}
+use Rattle.base.proofs.Choice.{either, by-test}
 use Rattle.links.specs.declared.Link.{Link}
 use Rattle.links.specs.declared.Link.the-variants.{Parallel, Serial}
+use Rattle.events.specs.declared.Event.{Event}
+use Rattle.events.specs.declared.Event.the-variants.{Bit}
+use Rattle.links.specs.Taken.{takenBy}
 use Rattle.picture.specs.Picture.{Seen}
 use Rattle.picture.specs.Refusals.{refusalOf}
-use Rattle.steps.specs.Steps.{bitStep}
 use Rattle.lent.specs.State.{State, freshState}
-use Rattle.lent.specs.Calls.{Call, bit, takenBy, unlessOther, called, Stands, after}
-use Rattle.sequences.specs.Wires.{Fits, answers, numbersOf}
+use Rattle.lent.specs.Calls.{unlessOther, Fits, called, Stands, after}
+use Rattle.lent.proofs.Kept.{admitted, still-fits}
+use Rattle.sequences.specs.Wires.{answers, numbersOf}
+use Rattle.lines.specs.Text.{Answered, answer, lines}
 use Rattle.sequences.proofs.Sequences.{after-append, numbers-append, zeros-append}
 use Rattle.capture.specs.Record.{number}
 use Rattle.capture.specs.Capture.{Recorded, contents}
 use Rattle.transcript.specs.Records.{heard, eightBits, recorded}
-use Rattle.transcript.specs.Replay.{Replayed, obeyed, obeyedAll, replayed}
+use Rattle.transcript.specs.Replay.{Replayed, answered, Room, roomFor, roomBehind, lineOf, obeyed, obeyedAll, replayed}
 use Rattle.transcript.specs.Transcript.{transcribed}
 use Rattle.boundary.specs.Report.{freshReplay}
-use Rattle.transcript.proofs.Refused.{called-length, heard-accepted, recorded-length}
-use Rattle.demands.specs.Captures.{callsOf, callsOfAll}
-use Rattle.demands.specs.Demand1.{TableSays, ofOtherLink, firstOfOtherLink, StopsAt, behindAll, atRecord, ReplayStops, TranscriptRefuses, ExportedReplayRefuses}
+use Rattle.transcript.proofs.Refused.{heard-accepted, recorded-length}
+use Rattle.demands.specs.Captures.{callsOf, callsOfAll, lastReply, sumOfCounts, answersOf}
+use Rattle.demands.specs.Demand1.{TableSays, isSerial, ofOtherLink, firstOfOtherLink, StopsAt, behindAll, atRecord, noRoom, ReplayStops, TranscriptRefuses, TranscriptTells, ExportedReplayRefuses}
 use Rattle.demands.proofs.Tables.{orOther, table-number}
 use Rattle.demands.proofs.Calls.{call-number}
+use Rattle.demands.proofs.Replies.{replies-to-reads}
 
 abbrev standsAt : State → List ℕ → Stands
 standsAt s frame = record { state = s; frame = frame }
@@ -42,99 +48,113 @@ lowest (suc n) value = bits.bit n value ∷ lowest n value
 
 bits-heard :
     (e : Seen) (value n : ℕ) (s : State) (frame : List ℕ)
-    → after e s frame (map bit (lowest n value)) ≡ standsAt (heard e value n s frame .state) (heard e value n s frame .frame)
+    → after e s frame (map Bit (lowest n value)) ≡ standsAt (heard e value n s frame .state) (heard e value n s frame .frame)
 unfolding after heard lowest
 bits-heard e value zero s frame = refl
 bits-heard e value (suc n) s frame =
-    bits-heard e value n (called e s frame (bit (bits.bit n value)) .state) (called e s frame (bit (bits.bit n value)) .frame)
+    bits-heard e value n (called e s frame (Bit (bits.bit n value)) .state) (called e s frame (Bit (bits.bit n value)) .frame)
+
+-- bits reply nothing, and their counts are summed
+heard-reply : (e : Seen) (value n : ℕ) (s : State) (frame : List ℕ) → heard e value n s frame .reply ≡ 0
+unfolding heard
+heard-reply e value zero s frame = refl
+heard-reply e value (suc n) s frame = heard-reply e value n _ _
+
+bits-reply : (e : Seen) (value n : ℕ) (s : State) (frame : List ℕ) → lastReply (answers e s frame (map Bit (lowest n value))) ≡ 0
+unfolding answers lowest lastReply
+bits-reply e value zero s frame = refl
+bits-reply e value (suc zero) s frame = replies-to-reads e s frame (Bit (bits.bit 0 value)) refl
+bits-reply e value (suc (suc n)) s frame =
+    bits-reply e value (suc n) (called e s frame (Bit (bits.bit (suc n) value)) .state) (called e s frame (Bit (bits.bit (suc n) value)) .frame)
+
+bits-count :
+    (e : Seen) (value n : ℕ) (s : State) (frame : List ℕ)
+    → heard e value n s frame .count ≡ sumOfCounts (answers e s frame (map Bit (lowest n value)))
+unfolding answers lowest sumOfCounts heard
+bits-count e value zero s frame = refl
+bits-count e value (suc n) s frame =
+    ap (λ (i : ℕ). called e s frame (Bit (bits.bit n value)) .count + i)
+    (bits-count e value n (called e s frame (Bit (bits.bit n value)) .state) (called e s frame (Bit (bits.bit n value)) .frame))
 
 module _ (e : Seen) (kind value : ℕ) (s : State) (frame : List ℕ) where
+  eight-answer :
+      eightBits e value s frame .number ≡ 0
+      → answered kind (eightBits e value s frame)
+      ≡ answer kind (lastReply (answers e s frame (map Bit (lowest 8 value)))) (sumOfCounts (answers e s frame (map Bit (lowest 8 value))))
+  unfolding eightBits
+  eight-answer =
+      by-test (eqb (called e s frame (Bit (bits.bit 7 value)) .number) 0)
+      (λ t. rw t (λ z. rw (heard-reply e value 8 s frame, bits-reply e value 8 s frame, bits-count e value 8 s frame)))
+      (λ t. rw t (λ z. absurd (eqb-false (called e s frame (Bit (bits.bit 7 value)) .number) 0 t z)))
+
+  -- an accepted record answers what its calls do
+  pub record-answers :
+      recorded e kind value s frame .number ≡ 0
+      → answered kind (recorded e kind value s frame)
+      ≡ answer kind (lastReply (answers e s frame (callsOf kind value))) (sumOfCounts (answers e s frame (callsOf kind value)))
+  unfolding recorded callsOf answers lowest lastReply sumOfCounts
+  record-answers = by-test (eqb kind 4) (λ t. rw t eight-answer) (λ t. rw t (λ z. rw add-zero))
+
   eight-heard :
       eightBits e value s frame .number ≡ 0
-      → after e s frame (map bit (lowest 8 value)) ≡ standsAt (eightBits e value s frame .state) (eightBits e value s frame .frame)
+      → after e s frame (map Bit (lowest 8 value)) ≡ standsAt (eightBits e value s frame .state) (eightBits e value s frame .frame)
   unfolding eightBits
   eight-heard =
-      by-test (eqb (called e s frame (bit (bits.bit 7 value)) .number) 0) (λ t. rw t (λ z. bits-heard e value 8 s frame))
-      (λ t. rw t (λ z. absurd (eqb-false (called e s frame (bit (bits.bit 7 value)) .number) 0 t z)))
+      by-test (eqb (called e s frame (Bit (bits.bit 7 value)) .number) 0) (λ t. rw t (λ z. bits-heard e value 8 s frame))
+      (λ t. rw t (λ z. absurd (eqb-false (called e s frame (Bit (bits.bit 7 value)) .number) 0 t z)))
 
   -- an accepted record does what its calls do
   pub record-does :
       recorded e kind value s frame .number ≡ 0
       → after e s frame (callsOf kind value) ≡ standsAt (recorded e kind value s frame .state) (recorded e kind value s frame .frame)
   unfolding recorded callsOf after lowest
-  record-does =
-      by-test (eqb kind 0) (λ t. rw t (λ z. refl))
-      (λ f0. by-test (eqb kind 1) (λ t. rw (f0, t) (λ z. refl))
-      (λ f1. by-test (eqb kind 2) (λ t. rw (f0, f1, t) (λ z. refl))
-      (λ f2. by-test (eqb kind 3) (λ t. rw (f0, f1, f2, t) (λ z. refl))
-      (λ f3. by-test (eqb kind 4) (λ t. rw (f0, f1, f2, f3, t) eight-heard)
-      (λ f4. by-test (eqb kind 5) (λ t. rw (f0, f1, f2, f3, f4, t) (λ z. refl))
-      (λ f5. rw (f0, f1, f2, f3, f4, f5) (λ z. refl)))))))
+  record-does = by-test (eqb kind 4) (λ t. rw t eight-heard) (λ t. rw t (λ z. refl))
 
 -- with frame and fonts that fit, a record is refused where its first call is of the other link, and with 5
 module _ (e : Seen) (s : State) (frame : List ℕ) (fits : Fits e frame) where
-  fitting-number : (call : Call) → called e s frame call .number ≡ (if ofOtherLink (s .link) call then 5 else 0)
+  fitting-number : (call : Event) → called e s frame call .number ≡ (if ofOtherLink (s .link) call then 5 else 0)
   fitting-number call = call-number e s frame call ∙ ap (orOther (ofOtherLink (s .link) call)) fits
 
-  eight-number : (value : ℕ) → eightBits e value s frame .number ≡ (if ofOtherLink (s .link) (bit (bits.bit 7 value)) then 5 else 0)
+  eight-number : (value : ℕ) → eightBits e value s frame .number ≡ (if ofOtherLink (s .link) (Bit (bits.bit 7 value)) then 5 else 0)
   unfolding eightBits
   eight-number value =
-      by-test (eqb (called e s frame (bit (bits.bit 7 value)) .number) 0)
-      (λ t. rw t (heard-accepted e value 8 s frame ∙ sym (eqb-true _ 0 t) ∙ fitting-number (bit (bits.bit 7 value))))
-      (λ t. rw t (fitting-number (bit (bits.bit 7 value))))
+      by-test (eqb (called e s frame (Bit (bits.bit 7 value)) .number) 0)
+      (λ t. rw t (heard-accepted e value 8 s frame ∙ sym (eqb-true _ 0 t) ∙ fitting-number (Bit (bits.bit 7 value))))
+      (λ t. rw t (fitting-number (Bit (bits.bit 7 value))))
 
   record-number :
       (kind value : ℕ) → recorded e kind value s frame .number ≡ (if firstOfOtherLink (s .link) (callsOf kind value) then 5 else 0)
   unfolding recorded callsOf
-  record-number kind value =
-      by-test (eqb kind 0) (λ t. rw t (fitting-number _))
-      (λ f0. by-test (eqb kind 1) (λ t. rw (f0, t) (fitting-number _))
-      (λ f1. by-test (eqb kind 2) (λ t. rw (f0, f1, t) (fitting-number _))
-      (λ f2. by-test (eqb kind 3) (λ t. rw (f0, f1, f2, t) (fitting-number _))
-      (λ f3. by-test (eqb kind 4) (λ t. rw (f0, f1, f2, f3, t) (eight-number value))
-      (λ f4. by-test (eqb kind 5) (λ t. rw (f0, f1, f2, f3, f4, t) (fitting-number _))
-      (λ f5. rw (f0, f1, f2, f3, f4, f5) (fitting-number _)))))))
+  record-number kind value = by-test (eqb kind 4) (λ t. rw t (eight-number value)) (λ t. rw t (fitting-number _))
 
 -- bits leave a serial link serial, so that they are all accepted where the first is
-abbrev isSerial : Link → Bool
-isSerial (Parallel pairing) = false
-isSerial (Serial receiver) = true
-
-bit-of-other : (l : Link) (b : Bool) → ofOtherLink l (bit b) ≡ not (isSerial l)
-bit-of-other (Parallel pairing) b = refl
-bit-of-other (Serial receiver) b = refl
-
-taken-serial :
-    (e : Seen) (s : State) (frame : List ℕ) (l : Link) (b : Bool)
+still-serial-taken :
+    (e : Seen) (s : State) (frame : List ℕ) (dl : Bool) (l : Link) (b : Bool)
     → isSerial l ≡ true
-    → isSerial (unlessOther e s frame (takenBy (s .memories) (s .control) l (bit b)) .state .link) ≡ true
-unfolding takenBy bitStep
-taken-serial e s frame (Parallel pairing) b h = absurd (true≢false (sym h))
-taken-serial e s frame (Serial receiver) b h = refl
+    → isSerial (unlessOther e s frame (takenBy dl l (Bit b)) .state .link) ≡ true
+unfolding takenBy
+still-serial-taken e s frame dl (Parallel pairing) b h = absurd (true≢false (sym h))
+still-serial-taken e s frame dl (Serial receiver) b h = refl
 
 module _ (e : Seen) where
-  still-fits : (s : State) (frame : List ℕ) (call : Call) → Fits e frame → Fits e (called e s frame call .frame)
-  still-fits s frame call fits = rw (called-length e s frame call) fits
-
   still-serial :
-      (s : State) (frame : List ℕ) (b : Bool) → Fits e frame → isSerial (s .link) ≡ true → isSerial (called e s frame (bit b) .state .link) ≡ true
-  unfolding called
+      (s : State) (frame : List ℕ) (b : Bool) → Fits e frame → isSerial (s .link) ≡ true → isSerial (called e s frame (Bit b) .state .link) ≡ true
   still-serial s frame b fits h =
-      rw (eq-eqb (refusalOf (length frame) (length (e .half)) (length (e .full))) 0 fits) (taken-serial e s frame (s .link) b h)
+      rw (admitted e s frame (Bit b) fits) (still-serial-taken e s frame _ (s .link) b h)
 
   bits-accepted :
       (value n : ℕ) (s : State) (frame : List ℕ)
       → Fits e frame
       → isSerial (s .link) ≡ true
-      → numbersOf e s frame (map bit (lowest n value)) ≡ replicate (length (map bit (lowest n value))) 0
+      → numbersOf e s frame (map Bit (lowest n value)) ≡ replicate (length (map Bit (lowest n value))) 0
   unfolding answers lowest
   bits-accepted value zero s frame fits h = refl
   bits-accepted value (suc n) s frame fits h =
       let b = bits.bit n value in
-      let first = fitting-number e s frame fits (bit b) ∙ ap (λ (x : Bool). if x then 5 else 0) (bit-of-other (s .link) b ∙ ap not h) in
-      ap (λ (ns : List ℕ). called e s frame (bit b) .number ∷ ns)
-      (bits-accepted value n (called e s frame (bit b) .state) (called e s frame (bit b) .frame) (still-fits s frame (bit b) fits) (still-serial s frame b fits h))
-      ∙ ap (λ (m : ℕ). m ∷ replicate (length (map bit (lowest n value))) 0) first
+      let first = fitting-number e s frame fits (Bit b) ∙ ap (λ (x : Bool). if x then 5 else 0) (ap not h) in
+      ap (λ (ns : List ℕ). called e s frame (Bit b) .number ∷ ns)
+      (bits-accepted value n (called e s frame (Bit b) .state) (called e s frame (Bit b) .frame) (still-fits e s frame (Bit b) fits) (still-serial s frame b fits h))
+      ∙ ap (λ (m : ℕ). m ∷ replicate (length (map Bit (lowest n value))) 0) first
 
   -- the calls of an accepted record are all accepted
   record-accepted :
@@ -144,17 +164,9 @@ module _ (e : Seen) where
       → numbersOf e s frame (callsOf kind value) ≡ replicate (length (callsOf kind value)) 0
   unfolding callsOf answers lowest
   record-accepted kind value s frame fits =
-      let alone : (call : Call) → ofOtherLink (s .link) call ≡ false → called e s frame call .number ∷ [] ≡ 0 ∷ [] =
+      let alone : (call : Event) → ofOtherLink (s .link) call ≡ false → called e s frame call .number ∷ [] ≡ 0 ∷ [] =
       λ call h. ap (λ (m : ℕ). m ∷ []) (fitting-number e s frame fits call ∙ ap (λ (x : Bool). if x then 5 else 0) h) in
-      by-test (eqb kind 0) (λ t. rw t (alone _))
-      (λ f0. by-test (eqb kind 1) (λ t. rw (f0, t) (alone _))
-      (λ f1. by-test (eqb kind 2) (λ t. rw (f0, f1, t) (alone _))
-      (λ f2. by-test (eqb kind 3) (λ t. rw (f0, f1, f2, t) (alone _))
-      (λ f3. by-test (eqb kind 4)
-      (λ t. rw (f0, f1, f2, f3, t)
-      (λ h. bits-accepted value 8 s frame fits (not-false (isSerial (s .link)) (sym (bit-of-other (s .link) _) ∙ h))))
-      (λ f4. by-test (eqb kind 5) (λ t. rw (f0, f1, f2, f3, f4, t) (alone _))
-      (λ f5. rw (f0, f1, f2, f3, f4, f5) (alone _)))))))
+      by-test (eqb kind 4) (λ t. rw t (λ h. bits-accepted value 8 s frame fits (not-false (isSerial (s .link)) h))) (λ t. rw t (alone _))
 
   -- a record was accepted, or its first call is of the other link
   number-tells : (x : Bool) (n : ℕ) → n ≡ (if x then 5 else 0) → n ≡ 0 → x ≡ false
@@ -167,51 +179,53 @@ module _ (e : Seen) where
 
 -- one record more before the stop
 one-more :
-    {rs : List Recorded} {behind k number : ℕ} {l : Link} (r : Recorded)
-    → StopsAt rs behind k number l
-    → StopsAt (r ∷ rs) behind (suc k) number l
-one-more r (behindAll p n) = behindAll (ap suc p) n
-one-more r (atRecord at more d o n) = atRecord at more d o n
+    {rs : List Recorded} {behind k number : ℕ} {full : Bool} {l : Link} (r : Recorded)
+    → StopsAt rs behind k number full l
+    → StopsAt (r ∷ rs) behind (suc k) number full l
+one-more r (behindAll p n f) = behindAll (ap suc p) n f
+one-more r (atRecord at more d o n f) = atRecord at more d o n f
+one-more r (noRoom at more d n f) = noRoom at more d n f
 
 module _ (e : Seen) (last : ℕ) where
   -- the place counts the answers
   obeyed-place :
-      (rs : List Recorded) (s : State) (frame : List ℕ) (n : ℕ)
-      → obeyed e last rs s frame n .ending .place ≡ n + length (obeyed e last rs s frame n .answers)
+      (room : Room) (rs : List Recorded) (s : State) (frame : List ℕ) (n : ℕ)
+      → obeyed e last room rs s frame n .ending .place ≡ n + length (obeyed e last room rs s frame n .answers)
   unfolding obeyed
-  obeyed-place [] s frame n = omega arith
-  obeyed-place (r ∷ rs) s frame n =
+  obeyed-place room [] s frame n = omega arith
+  obeyed-place room (r ∷ rs) s frame n =
       let k = recorded e (r .kind) (r .value) s frame in
-      by-test (eqb (k .number) 0)
-      (λ t. rw t (obeyed-place rs (k .state) (k .frame) (n + 1) ∙ omega arith))
-      (λ t. rw t (omega arith))
-
-  pub obeyed-all-place :
-      (rs : List Recorded) (s : State) (frame : List ℕ)
-      → obeyed e last rs s frame 0 .ending .place ≡ length (obeyed e last rs s frame 0 .answers)
-  obeyed-all-place rs s frame = obeyed-place rs s frame 0 ∙ omega arith
+      by-test (roomFor room n)
+      (λ q. by-test (eqb (k .number) 0)
+      (λ t. rw (q, t) (obeyed-place (roomBehind room (lineOf n (r .kind) k)) rs (k .state) (k .frame) (n + 1) ∙ omega arith))
+      (λ t. rw (q, t) (omega arith)))
+      (λ q. rw q (omega arith))
 
   -- what holds of a replay that has accepted so many records
   record Obeys (rs : List Recorded) (s : State) (frame : List ℕ) (r : Replayed) : Type 0 where
-    stops : StopsAt rs last (length (r .answers)) (r .ending .number) (r .ending .state .link)
+    stops : StopsAt rs last (length (r .answers)) (r .ending .number) (r .ending .full) (r .ending .state .link)
     accepted :
         numbersOf e s frame (callsOfAll (take (length (r .answers)) rs))
         ≡ replicate (length (callsOfAll (take (length (r .answers)) rs))) 0
     stands : standsAt (r .ending .state) (r .ending .frame) ≡ after e s frame (callsOfAll (take (length (r .answers)) rs))
+    answers : r .answers ≡ answersOf e s frame (take (length (r .answers)) rs)
 
-  obeyed-obeys : (rs : List Recorded) (s : State) (frame : List ℕ) (n : ℕ) → Fits e frame → Obeys rs s frame (obeyed e last rs s frame n)
-  unfolding obeyed after answers flatten
-  obeyed-obeys [] s frame n fits = record { stops = behindAll refl refl; accepted = refl; stands = refl }
-  obeyed-obeys (r ∷ rs) s frame n fits =
+  obeyed-obeys :
+      (room : Room) (rs : List Recorded) (s : State) (frame : List ℕ) (n : ℕ) → Fits e frame → Obeys rs s frame (obeyed e last room rs s frame n)
+  unfolding obeyed after answers answersOf flatten
+  obeyed-obeys room [] s frame n fits = record { stops = behindAll refl refl refl; accepted = refl; stands = refl; answers = refl }
+  obeyed-obeys room (r ∷ rs) s frame n fits =
       let k = recorded e (r .kind) (r .value) s frame in
       let number = record-number e s frame fits (r .kind) (r .value) in
-      by-test (eqb (k .number) 0)
+      let behind = roomBehind room (lineOf n (r .kind) k) in
+      by-test (roomFor room n)
+      (λ q. by-test (eqb (k .number) 0)
       (λ t.
       let z = eqb-true (k .number) 0 t in
       let does = record-does e (r .kind) (r .value) s frame z in
-      let on = obeyed-obeys rs (k .state) (k .frame) (n + 1) (rw (recorded-length e (r .kind) (r .value) s frame) fits) in
-      let more = callsOfAll (take (length (obeyed e last rs (k .state) (k .frame) (n + 1) .answers)) rs) in
-      rw t
+      let on = obeyed-obeys behind rs (k .state) (k .frame) (n + 1) (rw (recorded-length e (r .kind) (r .value) s frame) fits) in
+      let more = callsOfAll (take (length (obeyed e last behind rs (k .state) (k .frame) (n + 1) .answers)) rs) in
+      rw (q, t)
       (record {
         stops = one-more r (on .stops);
         accepted =
@@ -225,12 +239,23 @@ module _ (e : Seen) (last : ℕ) where
             on .stands
             ∙ ap (λ (x : Stands). after e (x .state) (x .frame) more) (sym does)
             ∙ sym (after-append e (callsOf (r .kind) (r .value)) more s frame);
+        answers =
+            ap (λ (l : List Answered). answered (r .kind) k ∷ l) (on .answers)
+            ∙ ap
+            (λ (a : Answered). a ∷ answersOf e (k .state) (k .frame) (take (length (obeyed e last behind rs (k .state) (k .frame) (n + 1) .answers)) rs))
+            (record-answers e (r .kind) (r .value) s frame z)
+            ∙ ap
+            (λ (x : Stands).
+            answer (r .kind) (lastReply (answers e s frame (callsOf (r .kind) (r .value)))) (sumOfCounts (answers e s frame (callsOf (r .kind) (r .value))))
+            ∷ answersOf e (x .state) (x .frame) (take (length (obeyed e last behind rs (k .state) (k .frame) (n + 1) .answers)) rs))
+            (sym does);
       }))
       (λ t.
       let other = number-tells-not e _ (k .number) number (eqb-false (k .number) 0 t) in
-      rw t (record { stops = atRecord r rs refl (other .0) (other .1); accepted = refl; stands = refl }))
+      rw (q, t) (record { stops = atRecord r rs refl (other .0) (other .1) refl; accepted = refl; stands = refl; answers = refl })))
+      (λ q. rw q (record { stops = noRoom r rs refl refl refl; accepted = refl; stands = refl; answers = refl }))
 
-module _ (e : Seen) (capture : List ℕ) (s : State) (frame : List ℕ) where
+module _ (e : Seen) (frame : List ℕ) where
   abbrev buffers : ℕ
   buffers = refusalOf (length frame) (length (e .half)) (length (e .full))
 
@@ -239,45 +264,49 @@ module _ (e : Seen) (capture : List ℕ) (s : State) (frame : List ℕ) where
       let is = table-number e frame false 0 says in
       by-test (eqb buffers 0) (eqb-true buffers 0) (λ t. absurd (eqb-false buffers 0 t (sym (rw t at is))))
 
-  let-in : Fits e frame → replayed e capture s frame 0 ≡ obeyedAll e (contents capture) s frame 0
-  unfolding replayed
-  let-in fits = rw (eq-eqb buffers 0 fits)
-
-  abbrev Told : ℕ → Replayed → Type 0
-  Told place r =
-      StopsAt (contents capture .records) (number (contents capture .stop)) place (r .ending .number) (r .ending .state .link)
-      × (numbersOf e s frame (callsOfAll (take place (contents capture .records)))
-      ≡ replicate (length (callsOfAll (take place (contents capture .records)))) 0)
-      × (standsAt (r .ending .state) (r .ending .frame) ≡ after e s frame (callsOfAll (take place (contents capture .records))))
-
-  told : Fits e frame → Told (replayed e capture s frame 0 .ending .place) (replayed e capture s frame 0)
-  told fits =
-      let o = obeyed-obeys e (number (contents capture .stop)) (contents capture .records) s frame 0 fits in
-      rw (let-in fits, obeyed-all-place e (number (contents capture .stop)) (contents capture .records) s frame)
-      (o .stops, o .accepted, o .stands)
-
   -- refused as a call, with the number of the buffers
   refused-with : (n : ℕ) → TableSays e frame false n → n ≢ 0 → (eqb buffers 0 ≡ false) × (n ≡ buffers)
   refused-with n says h =
       let is = table-number e frame false n says in
       by-test (eqb buffers 0) (λ t. absurd (h (rw t at is))) (λ t. (t, rw t at is))
 
-  pub replay-stops : ReplayStops e capture s frame (replayed e capture s frame 0)
+module _ (e : Seen) (room : Room) (capture : List ℕ) (s : State) (frame : List ℕ) (place : ℕ) where
+  let-in : Fits e frame → replayed e room capture s frame place ≡ obeyedAll e room (contents capture) s frame place
+  unfolding replayed
+  let-in fits = rw (eq-eqb (buffers e frame) 0 fits)
+
+  told : Fits e frame → Obeys e (number (contents capture .stop)) (contents capture .records) s frame (replayed e room capture s frame place)
+  told fits = rw (let-in fits) (obeyed-obeys e (number (contents capture .stop)) room (contents capture .records) s frame place fits)
+
+  replayed-place : replayed e room capture s frame place .ending .place ≡ place + length (replayed e room capture s frame place .answers)
+  unfolding replayed
+  replayed-place =
+      either (λ (r : Replayed). r .ending .place ≡ place + length (r .answers)) (eqb (buffers e frame) 0)
+      (obeyed-place e (number (contents capture .stop)) room (contents capture .records) s frame place)
+      (omega arith)
+
+  pub replay-stops : ReplayStops e capture s frame place (replayed e room capture s frame place)
   unfolding replayed
   replay-stops =
       record {
-        refused = λ n says h. let r = refused-with n says h in rw (r .0) (sym (r .1), refl, refl, refl);
-        stops = λ says. told (fit says) .0;
-        accepted = λ says. told (fit says) .1;
-        stands = λ says. told (fit says) .2;
+        refused = λ n says h. let r = refused-with e frame n says h in rw (r .0, ← r .1);
+        counts = replayed-place;
+        stops = λ says. told (fit e frame says) .stops;
+        accepted = λ says. told (fit e frame says) .accepted;
+        stands = λ says. told (fit e frame says) .stands;
+        answers = λ says. told (fit e frame says) .answers;
       }
 
 pub transcript-refuses : TranscriptRefuses
+unfolding transcribed replayed lines
+transcript-refuses e capture s frame place text n says h = let r = refused-with e frame n says h in rw (r .0, ← r .1)
+
+pub transcript-tells : TranscriptTells
 unfolding transcribed
-transcript-refuses e capture s frame place text n says h = let r = refused-with e capture s frame n says h in rw (r .0, ← r .1)
+transcript-tells e capture s frame place text = refl
 
 pub exported-replay-refuses : ExportedReplayRefuses
 unfolding freshReplay
 exported-replay-refuses parallel e capture frame state last n says h =
-    let r = refused-with e capture (freshState parallel) frame n says h in
+    let r = refused-with e frame n says h in
     rw (r .0, ← r .1)

@@ -8,77 +8,83 @@ use lib.Dec.{eqb}
 use Rattle.base.proofs.Choice.{either}
 use Rattle.controller.specs.declared.Control.{Control}
 use Rattle.controller.specs.Memories.{Memories}
-use Rattle.controller.specs.Transfers.{executed, written}
-use Rattle.links.specs.declared.Half.{Half}
+use Rattle.controller.specs.Transfers.{executed, written, carriedOut, performed}
+use Rattle.events.specs.declared.Event.{Event}
+use Rattle.events.specs.declared.Event.the-variants.{Transfer, Bit, SelectLow, Reset}
+use Rattle.events.specs.declared.Transfer.the-variants.{Instruct, Write, Status, Read}
+use Rattle.events.specs.declared.Deed.the-variants.{Whole}
 use Rattle.links.specs.declared.Link.{Link}
 use Rattle.links.specs.declared.Link.the-variants.{Parallel, Serial}
 use Rattle.links.specs.declared.Pairing.{Pairing}
 use Rattle.links.specs.declared.Pairing.the-variants.{Empty, Upper, Lower}
 use Rattle.links.specs.declared.Received.{Received}
 use Rattle.links.specs.declared.Received.the-variants as received
-use Rattle.links.specs.declared.Transfer.the-variants.{Instruct, Write, Status, Read}
+use Rattle.links.specs.declared.Carried.{Carried}
+use Rattle.links.specs.declared.Taken.{Taken}
+use Rattle.links.specs.declared.Taken.the-variants.{OtherLink, Carries}
 use Rattle.links.specs.Halves as halves
 use Rattle.links.specs.Serial.{heard}
+use Rattle.links.specs.Taken.{byWidth, deedOf, takenBy, replied}
 use Rattle.picture.specs.Picture.{Seen}
 use Rattle.picture.specs.Refusals.{refusalOf}
-use Rattle.steps.specs.Steps.{Stepped, carriedOut, halfStep, transferStep, receivedActs, bitStep, selectLowStep, resetStep}
 use Rattle.lent.specs.State.{State}
-use Rattle.lent.specs.Calls.{Call, transfer, bit, selectLow, reset, Taken, otherLink, taken, takenBy, Called, unlessOther, called}
+use Rattle.lent.specs.Calls.{Called, unlessOther, takenOn, called}
 use Rattle.demands.specs.Demand2.{isRead, RepliesToReads}
 
 module _ (m : Memories) (c : Control) where
-  write-reply : (register : Bool) (byte : ℕ) → carriedOut m c (halves.writing register byte) .done .reply ≡ 0
-  unfolding carriedOut executed written
+  abbrev replyOf : Carried → ℕ
+  replyOf x = replied (x .rest) (performed m c (x .deed) .done .reply) .reply
+
+  write-reply : (register : Bool) (byte : ℕ) → performed m c (Whole (halves.writing register byte)) .done .reply ≡ 0
+  unfolding performed carriedOut executed written
   write-reply false byte = refl
   write-reply true byte = refl
 
-  half-reply : (pairing : Pairing) (register : Bool) (value : ℕ) → halfStep m c (halves.writeHalf pairing register value) .acted .done .reply ≡ 0
-  unfolding halves.writeHalf
+  half-reply : (pairing : Pairing) (register : Bool) (value : ℕ) → replyOf (halves.writeHalf pairing register value) ≡ 0
+  unfolding halves.writeHalf performed
   half-reply Empty register value = refl
   half-reply (Upper was upper) register value =
-      either (λ (h : Half). halfStep m c h .acted .done .reply ≡ 0) (Bool·beq was register)
+      either (λ (x : Carried). replyOf x ≡ 0) (Bool·beq was register)
       (ap halves.firstReply (write-reply register (halves.joined upper (halves.bits7-4 value))))
       refl
   half-reply (Lower was lower) register value = refl
 
-  transfer-reply :
-      (pairing : Pairing) (register : Bool) (byte : ℕ) → transferStep m c pairing (halves.writing register byte) .acted .done .reply ≡ 0
-  unfolding transferStep halves.paired
-  transfer-reply pairing false byte =
-      either (λ (x : Stepped). x .acted .done .reply ≡ 0) (c .function .dl) (write-reply false byte) (half-reply pairing false byte)
-  transfer-reply pairing true byte =
-      either (λ (x : Stepped). x .acted .done .reply ≡ 0) (c .function .dl) (write-reply true byte) (half-reply pairing true byte)
+  transfer-reply : (dl : Bool) (pairing : Pairing) (register : Bool) (byte : ℕ) → replyOf (byWidth dl pairing (halves.writing register byte)) ≡ 0
+  unfolding byWidth halves.paired
+  transfer-reply true pairing register byte = write-reply register byte
+  transfer-reply false pairing false byte = half-reply pairing false byte
+  transfer-reply false pairing true byte = half-reply pairing true byte
 
-  received-reply : (r : Received) → receivedActs m c r .done .reply ≡ 0
+  received-reply : (r : Received) → performed m c (deedOf r) .done .reply ≡ 0
+  unfolding performed
   received-reply received.Nothing = refl
   received-reply (received.Byte register byte) = write-reply register byte
 
   abbrev takenReply : Taken → ℕ
-  takenReply otherLink = 0
-  takenReply (taken x) = x .acted .done .reply
+  takenReply OtherLink = 0
+  takenReply (Carries x) = replyOf x
 
-  taken-reply : (l : Link) (call : Call) → isRead call ≡ false → takenReply (takenBy m c l call) ≡ 0
-  unfolding takenBy bitStep selectLowStep resetStep
-  taken-reply (Parallel pairing) (transfer (Instruct byte)) h = transfer-reply pairing false byte
-  taken-reply (Parallel pairing) (transfer (Write byte)) h = transfer-reply pairing true byte
-  taken-reply (Parallel pairing) (transfer Status) h = absurd (true≢false h)
-  taken-reply (Parallel pairing) (transfer Read) h = absurd (true≢false h)
-  taken-reply (Serial receiver) (transfer t) h = refl
-  taken-reply (Parallel pairing) (bit b) h = refl
-  taken-reply (Serial receiver) (bit b) h = received-reply (heard receiver b .received)
-  taken-reply (Parallel pairing) selectLow h = refl
-  taken-reply (Serial receiver) selectLow h = refl
-  taken-reply (Parallel pairing) (reset parallel) h = refl
-  taken-reply (Serial receiver) (reset parallel) h = refl
+  taken-reply : (dl : Bool) (l : Link) (call : Event) → isRead call ≡ false → takenReply (takenBy dl l call) ≡ 0
+  unfolding takenBy performed
+  taken-reply dl (Parallel pairing) (Transfer (Instruct byte)) h = transfer-reply dl pairing false byte
+  taken-reply dl (Parallel pairing) (Transfer (Write byte)) h = transfer-reply dl pairing true byte
+  taken-reply dl (Serial receiver) (Transfer (Instruct byte)) h = refl
+  taken-reply dl (Serial receiver) (Transfer (Write byte)) h = refl
+  taken-reply dl l (Transfer Status) h = absurd (true≢false h)
+  taken-reply dl l (Transfer Read) h = absurd (true≢false h)
+  taken-reply dl (Parallel pairing) (Bit b) h = refl
+  taken-reply dl (Serial receiver) (Bit b) h = received-reply (heard receiver b .received)
+  taken-reply dl (Parallel pairing) SelectLow h = refl
+  taken-reply dl (Serial receiver) SelectLow h = refl
+  taken-reply dl l (Reset pin) h = refl
 
-  other-reply : (e : Seen) (s : State) (frame : List ℕ) (t : Taken) → unlessOther e s frame t .reply ≡ takenReply t
-  other-reply e s frame otherLink = refl
-  other-reply e s frame (taken x) = refl
+other-reply : (e : Seen) (s : State) (frame : List ℕ) (t : Taken) → unlessOther e s frame t .reply ≡ takenReply (s .memories) (s .control) t
+other-reply e s frame OtherLink = refl
+other-reply e s frame (Carries x) = refl
 
 pub replies-to-reads : RepliesToReads
 unfolding called
 replies-to-reads e s frame call h =
     either (λ (k : Called). k .reply ≡ 0) (eqb (refusalOf (length frame) (length (e .half)) (length (e .full))) 0)
-    (other-reply (s .memories) (s .control) e s frame (takenBy (s .memories) (s .control) (s .link) call)
-    ∙ taken-reply (s .memories) (s .control) (s .link) call h)
+    (other-reply e s frame (takenOn s call) ∙ taken-reply (s .memories) (s .control) (s .control .function .dl) (s .link) call h)
     refl

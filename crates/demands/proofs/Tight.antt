@@ -2,7 +2,7 @@
 use mathlib.Core.Path.{_≡_, refl, ap, sym, _∙_}
 use Rattle.lent.specs.State.{State}
 use Rattle.panel.specs.declared.Panel.{Panel}
-use Rattle.demands.specs.Tight.{Contract, Tight, PublicCall, contractOf, fresh, call, draw, lentCall, send, read, recordAt, answerNumber, readerOver, readerRead, readerMoved}
+use Rattle.demands.specs.Tight.{Contract, Tight, PublicCall, contractOf, fresh, call, draw, lentCall, send, read, recordAt, answerNumber, readerOver, readerStep}
 use Rattle.demands.specs.Tight.{replay, transcribe, putLast, exportedDraw, exportedSend, exportedReplay, braille, plain, pbm}
 
 -- the panel of a state
@@ -41,8 +41,7 @@ tight read = tight-by (contractOf read) (λ x. x) (λ x. refl)
 tight recordAt = tight-by (contractOf recordAt) (λ x. x) (λ x. refl)
 tight answerNumber = tight-by (contractOf answerNumber) (λ x. x) (λ x. refl)
 tight readerOver = tight-by (contractOf readerOver) (λ x. x) (λ x. refl)
-tight readerRead = tight-by (contractOf readerRead) (λ x. x) (λ x. refl)
-tight readerMoved = tight-by (contractOf readerMoved) (λ x. x) (λ x. refl)
+tight readerStep = tight-by (contractOf readerStep) (λ x. x) (λ x. refl)
 tight replay =
     tight-by (contractOf replay)
     (λ k. record {
@@ -59,7 +58,7 @@ tight replay =
 tight transcribe =
     tight-by (contractOf transcribe)
     (λ k. record {
-      told = record { panel = panelOf (k .ending .state); place = k .ending .place; number = k .ending .number; filled = k .filled };
+      told = record { panel = panelOf (k .ending .state); place = k .ending .place; number = k .ending .number; filled = k .filled; full = k .ending .full };
       frame = k .ending .frame;
       text = k .text;
     })

@@ -1,30 +1,33 @@
 -- Demand 1. "The connector can carry anything at all, and so can a capture. Each public call refuses bad input itself, with the number
 -- in document 01, and a refused call or capture record leaves the panel state and each lent buffer as they were."
 -- Proved in proofs/, as `demand-1`.
-use Prim.Native.Nat.{ℕ, _≤_, _<_, _%_}
-use mathlib.Core.Bool.{Bool, true, false}
+use Prim.Native.Nat.{ℕ, _+_, _≤_, _<_, _%_}
+use mathlib.Core.Bool.{Bool, true, false, not}
 use mathlib.Core.List.{List, [], _∷_}
 use mathlib.Core.Logic.{_≢_}
 use mathlib.Core.Path.{_≡_}
 use lib.ListN.{length, take, drop, replicate, getD}
 use Rattle.controller.specs.declared.Control.{Control}
 use Rattle.controller.specs.Memories.{Memories}
+use Rattle.events.specs.declared.Event.{Event}
+use Rattle.events.specs.declared.Event.the-variants.{Transfer, Bit, SelectLow, Reset}
 use Rattle.links.specs.declared.Link.{Link}
 use Rattle.links.specs.declared.Link.the-variants.{Parallel, Serial}
 use Rattle.links.specs.Sender.{sent, leaving}
 use Rattle.picture.specs.Picture.{Seen}
 use Rattle.picture.specs.Refusals.{drawn, leaves}
 use Rattle.lent.specs.State.{State}
-use Rattle.lent.specs.Calls.{Call, transfer, bit, selectLow, reset, called, refused, after}
+use Rattle.lent.specs.Calls.{called, refused, after}
 use Rattle.sequences.specs.Wires.{numbersOf}
 use Rattle.capture.specs.declared.Answer.{Answer}
 use Rattle.capture.specs.declared.Answer.the-variants.{Record, Short, WrongMark, WrongKind, WrongValue, End}
 use Rattle.capture.specs.Record.{kindOf, valueOf, answer, number}
 use Rattle.capture.specs.Capture.{Recorded, contents}
-use Rattle.transcript.specs.Replay.{Replayed, replayed}
-use Rattle.transcript.specs.Transcript.{transcribed, standsAt}
+use Rattle.transcript.specs.Replay.{endingAt, Replayed, Room, endless, bytes, replayed}
+use Rattle.transcript.specs.Transcript.{withLines, transcribed}
+use Rattle.transcript.specs.Statements.{PartsReplayAsWhole, RoomTellsAll}
 use Rattle.boundary.specs.Report.{report, freshReplay}
-use Rattle.demands.specs.Captures.{callsOf, callsOfAll}
+use Rattle.demands.specs.Captures.{callsOf, callsOfAll, answersOf}
 
 -- frame and fonts as document 01 wants them: what refusals 1, 2 and 3 find missing
 abbrev pub GoodFrame : List ℕ → Type 0
@@ -45,23 +48,23 @@ pub data TableSays (e : Seen) (frame : List ℕ) (other : Bool) : ℕ → Type 0
   accepted : GoodFrame frame → GoodHalfFont e → GoodFullFont e → other ≡ false → TableSays e frame other 0
 
 -- transfers are of the parallel link, serial bits and select-low of the serial one; reset is of both
-abbrev pub ofOtherLink : Link → Call → Bool
-ofOtherLink (Parallel pairing) (transfer t) = false
-ofOtherLink (Serial receiver) (transfer t) = true
-ofOtherLink (Parallel pairing) (bit b) = true
-ofOtherLink (Serial receiver) (bit b) = false
-ofOtherLink (Parallel pairing) selectLow = true
-ofOtherLink (Serial receiver) selectLow = false
-ofOtherLink (Parallel pairing) (reset parallel) = false
-ofOtherLink (Serial receiver) (reset parallel) = false
+abbrev pub isSerial : Link → Bool
+isSerial (Parallel pairing) = false
+isSerial (Serial receiver) = true
+
+abbrev pub ofOtherLink : Link → Event → Bool
+ofOtherLink link (Transfer t) = isSerial link
+ofOtherLink link (Bit b) = not (isSerial link)
+ofOtherLink link SelectLow = not (isSerial link)
+ofOtherLink link (Reset pin) = false
 
 -- of the calls of a record the first decides
-abbrev pub firstOfOtherLink : Link → List Call → Bool
+abbrev pub firstOfOtherLink : Link → List Event → Bool
 firstOfOtherLink link [] = false
 firstOfOtherLink link (call ∷ calls) = ofOtherLink link call
 
 -- a transfer, bit, select-low or reset: its number is the table's, and a refused one leaves state and frame, with reply 0 and count 0
-pub record CallRefuses (e : Seen) (s : State) (frame : List ℕ) (call : Call) : Type 0 where
+pub record CallRefuses (e : Seen) (s : State) (frame : List ℕ) (call : Event) : Type 0 where
   pub says : TableSays e frame (ofOtherLink (s .link) call) (called e s frame call .number)
   pub keeps : called e s frame call .number ≢ 0 → called e s frame call ≡ refused s frame (called e s frame call .number)
 
@@ -106,38 +109,58 @@ OneNumber Says = (m n : ℕ) → Says m → Says n → m ≡ n
 abbrev pub OneAnswer : (Answer → ℕ → Type 0) → Type 0
 OneAnswer Says = (a b : Answer) (m n : ℕ) → Says a m → Says b n → (a ≡ b) × (m ≡ n)
 
--- where a replay stops after so many records, in a state with this link: at what stands behind the last one, with its number; or at a
--- record of the other link, with 5
-pub data StopsAt (rs : List Recorded) (behind place number : ℕ) (link : Link) : Type 0 where
-  behindAll : place ≡ length rs → number ≡ behind → StopsAt rs behind place number link
+-- where a replay stops after so many records, in a state with this link: at what stands behind the last one, with its number; at a
+-- record of the other link, with 5; or, where it writes lines, at a record whose line might have no room
+pub data StopsAt (rs : List Recorded) (behind place number : ℕ) (full : Bool) (link : Link) : Type 0 where
+  behindAll : place ≡ length rs → number ≡ behind → full ≡ false → StopsAt rs behind place number full link
   atRecord : (r : Recorded) (more : List Recorded)
       → drop place rs ≡ r ∷ more
       → firstOfOtherLink link (callsOf (r .kind) (r .value)) ≡ true
       → number ≡ 5
-      → StopsAt rs behind place number link
+      → full ≡ false
+      → StopsAt rs behind place number full link
+  noRoom : (r : Recorded) (more : List Recorded)
+      → drop place rs ≡ r ∷ more
+      → number ≡ 0
+      → full ≡ true
+      → StopsAt rs behind place number full link
 
--- a replay: the records before the one at which it stops stand, and that one has no effect
-pub record ReplayStops (e : Seen) (capture : List ℕ) (s : State) (frame : List ℕ) (r : Replayed) : Type 0 where
-  -- refused as a call before anything is read: nothing changes
-  pub refused :
-      (n : ℕ)
-      → TableSays e frame false n
-      → n ≢ 0
-      → (r .ending .number ≡ n) × (r .ending .place ≡ 0) × (r .ending .state ≡ s) × (r .ending .frame ≡ frame)
-  -- else it stops at the first record that is refused, or behind the last
+-- a replay, with or without lines, from a number of accepted records on: the records before the one at which it stops stand, and that
+-- one has no effect
+pub record ReplayStops (e : Seen) (capture : List ℕ) (s : State) (frame : List ℕ) (place : ℕ) (r : Replayed) : Type 0 where
+  -- refused as a call before anything is read: nothing changes, and nothing is answered
+  pub refused : (n : ℕ) → TableSays e frame false n → n ≢ 0 → r ≡ record { answers = []; ending = endingAt s frame place n }
+  -- else it stops at the first record that is refused, or behind the last; each record before that has answered
+  pub counts : r .ending .place ≡ place + length (r .answers)
   pub stops :
       TableSays e frame false 0
-      → StopsAt (contents capture .records) (number (contents capture .stop)) (r .ending .place) (r .ending .number) (r .ending .state .link)
-  -- every call of the records before that place is accepted
+      → StopsAt (contents capture .records) (number (contents capture .stop)) (length (r .answers)) (r .ending .number) (r .ending .full) (r .ending .state .link)
+  -- every call of these records is accepted
   pub accepted :
       TableSays e frame false 0
-      → let calls : List Call = callsOfAll (take (r .ending .place) (contents capture .records)) in
+      → let calls : List Event = callsOfAll (take (length (r .answers)) (contents capture .records)) in
       numbersOf e s frame calls ≡ replicate (length calls) 0
-  -- and the state and the frame are what these calls leave
+  -- the state and the frame are what these calls leave
   pub stands :
       TableSays e frame false 0
       → record { state = r .ending .state; frame = r .ending .frame }
-      ≡ after e s frame (callsOfAll (take (r .ending .place) (contents capture .records)))
+      ≡ after e s frame (callsOfAll (take (length (r .answers)) (contents capture .records)))
+  -- and the answers are theirs: of each record its kind, its call's reply, and the sum of its calls' counts
+  pub answers :
+      TableSays e frame false 0
+      → r .answers ≡ answersOf e s frame (take (length (r .answers)) (contents capture .records))
+
+-- the printed transcript is such a replay, whose lines have the buffer as their room: the lines of all its answers, in their order, stand
+-- at the beginning of the buffer, and all else in it is as it was
+abbrev pub TranscriptTells : Type 0
+TranscriptTells =
+    (e : Seen) (capture : List ℕ) (s : State) (frame : List ℕ) (place : ℕ) (text : List ℕ)
+    → transcribed e capture s frame place text ≡ withLines place text (replayed e (bytes (length text)) capture s frame place)
+
+-- without lines, want of room never stops a replay
+abbrev pub NeverFull : Type 0
+NeverFull =
+    (e : Seen) (capture : List ℕ) (s : State) (frame : List ℕ) (place : ℕ) → replayed e endless capture s frame place .ending .full ≡ false
 
 -- the printed transcript, and the replay that other languages link, are refused as calls too, and leave all that they were lent
 abbrev pub TranscriptRefuses : Type 0
@@ -145,7 +168,7 @@ TranscriptRefuses =
     (e : Seen) (capture : List ℕ) (s : State) (frame : List ℕ) (place : ℕ) (text : List ℕ) (n : ℕ)
     → TableSays e frame false n
     → n ≢ 0
-    → transcribed e capture s frame place text ≡ standsAt s frame place n text 0
+    → transcribed e capture s frame place text ≡ record { ending = endingAt s frame place n; text = text; filled = 0 }
 
 abbrev pub ExportedReplayRefuses : Type 0
 ExportedReplayRefuses =
@@ -155,12 +178,21 @@ ExportedReplayRefuses =
     → freshReplay parallel e capture frame state last ≡ report n frame state last
 
 pub record Demand1 : Type 0 where
-  pub calls : (e : Seen) (s : State) (frame : List ℕ) (call : Call) → CallRefuses e s frame call
+  pub calls : (e : Seen) (s : State) (frame : List ℕ) (call : Event) → CallRefuses e s frame call
   pub draws : (e : Seen) (m : Memories) (c : Control) (frame : List ℕ) → DrawRefuses e m c frame
   pub sends : (register : Bool) (byte : ℕ) (buffer : List ℕ) → SendRefuses register byte buffer
   pub captures : (c : List ℕ) → RecordSays c (answer c) (number (answer c))
-  pub replays : (e : Seen) (capture : List ℕ) (s : State) (frame : List ℕ) → ReplayStops e capture s frame (replayed e capture s frame 0)
+  -- of every replay, and so of `replay` and of `transcribe`
+  pub replays :
+      (e : Seen) (room : Room) (capture : List ℕ) (s : State) (frame : List ℕ) (place : ℕ)
+      → ReplayStops e capture s frame place (replayed e room capture s frame place)
+  pub neverFull : NeverFull
+  -- a capture may be replayed in parts of whole records
+  pub parts : PartsReplayAsWhole
   pub transcripts : TranscriptRefuses
+  pub tells : TranscriptTells
+  -- and 29 bytes for each record are room enough for all of it
+  pub tellsAll : RoomTellsAll
   pub exportedReplays : ExportedReplayRefuses
   pub oneNumberForCalls : (e : Seen) (frame : List ℕ) (other : Bool) → OneNumber (TableSays e frame other)
   pub oneNumberForSends : (buffer : List ℕ) → OneNumber (SenderSays buffer)

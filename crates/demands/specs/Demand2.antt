@@ -10,14 +10,19 @@ use mathlib.Core.Path.{_≡_}
 use lib.ListN.{length, drop}
 use Rattle.controller.specs.declared.Control.{Control}
 use Rattle.controller.specs.Memories.{Memories}
-use Rattle.links.specs.declared.Transfer.the-variants.{Instruct, Write, Status, Read}
+use Rattle.events.specs.declared.Event.{Event}
+use Rattle.events.specs.declared.Pin.{Pin}
+use Rattle.events.specs.declared.Event.the-variants.{Transfer, Bit, SelectLow, Reset}
+use Rattle.events.specs.declared.Transfer.the-variants.{Instruct, Write, Status, Read}
+use Rattle.links.specs.declared.Receiver.{Receiver}
+use Rattle.links.specs.declared.Link.the-variants.{Serial}
+use Rattle.links.specs.Idle.{idle}
 use Rattle.links.specs.Sender.{threeBytes, leaving, sent}
-use Rattle.picture.specs.Picture.{Seen, picture}
+use Rattle.picture.specs.Picture.{Seen, pictured}
 use Rattle.picture.specs.Refusals.{leaves, drawn}
-use Rattle.lent.specs.State.{State}
-use Rattle.lent.specs.Calls.{Call, transfer, bit, selectLow, reset, Called, called}
-use Rattle.sequences.specs.Wires.{Fits}
-use Rattle.sequences.specs.Agreement.{TransferIsConnected, BitIsConnected, SentIsReceived, WritesAreReceived, LinksAgree, FunctionSetsKeepDl}
+use Rattle.lent.specs.State.{State, state, freshState}
+use Rattle.lent.specs.Calls.{Called, Fits, called}
+use Rattle.sequences.specs.Agreement.{CallIsConnected, SentIsReceived, WritesAreReceived, LinksAgree, FunctionSetsKeepDl}
 use Rattle.panel.specs.declared.Panel.{Panel}
 use Rattle.panel.specs.declared.Outcome.{Outcome}
 use Rattle.panel.specs.Handed.{stateOf, handed}
@@ -25,7 +30,7 @@ use Rattle.panel.specs.Handed.{stateOf, handed}
 -- a call, with the fonts and the phase that it is given
 pub record Given : Type 0 where
   pub seen : Seen
-  pub call : Call
+  pub call : Event
 
 -- what a call by value left: its outcome, and the frame
 pub record Left : Type 0 where
@@ -55,24 +60,38 @@ SequencesAsDefined =
     → map (λ l. handed (l .outcome) (l .frame)) left ≡ yielded (stateOf p) frame given
 
 -- the calls that read
-abbrev pub isRead : Call → Bool
-isRead (transfer (Instruct byte)) = false
-isRead (transfer (Write byte)) = false
-isRead (transfer Status) = true
-isRead (transfer Read) = true
-isRead (bit b) = false
-isRead selectLow = false
-isRead (reset parallel) = false
+abbrev pub isRead : Event → Bool
+isRead (Transfer (Instruct byte)) = false
+isRead (Transfer (Write byte)) = false
+isRead (Transfer Status) = true
+isRead (Transfer Read) = true
+isRead (Bit b) = false
+isRead SelectLow = false
+isRead (Reset pin) = false
 
 -- The reply is 0 unless the call reads.
 abbrev pub RepliesToReads : Type 0
 RepliesToReads =
-    (e : Seen) (s : State) (frame : List ℕ) (call : Call) → isRead call ≡ false → called e s frame call .reply ≡ 0
+    (e : Seen) (s : State) (frame : List ℕ) (call : Event) → isRead call ≡ false → called e s frame call .reply ≡ 0
+
+-- Reset gives a fresh state, with its pin.
+abbrev pub ResetIsFresh : Type 0
+ResetIsFresh =
+    (e : Seen) (s : State) (frame : List ℕ) (pin : Pin) → Fits e frame → called e s frame (Reset pin) .state ≡ freshState (pin .parallel)
+
+-- Chip select low, on a serial link, leaves all but the link, and the link idle.
+abbrev pub SelectLowIdles : Type 0
+SelectLowIdles =
+    (e : Seen) (s : State) (frame : List ℕ) (receiver : Receiver)
+    → Fits e frame
+    → s .link ≡ Serial receiver
+    → called e s frame SelectLow
+    ≡ record { state = state (s .memories) (s .control) (idle false); number = 0; reply = 0; count = 0; frame = frame }
 
 -- An accepted drawing is the picture.
 abbrev pub DrawnIsPicture : Type 0
 DrawnIsPicture =
-    (e : Seen) (m : Memories) (c : Control) (frame : List ℕ) → Fits e frame → drawn e m c frame ≡ leaves 0 (picture e m c)
+    (e : Seen) (m : Memories) (c : Control) (frame : List ℕ) → Fits e frame → drawn e m c frame ≡ leaves 0 (pictured e m c)
 
 -- The sender writes its three bytes, and no others.
 abbrev pub SendsThreeBytes : Type 0
@@ -82,11 +101,12 @@ SendsThreeBytes =
     → sent register byte buffer ≡ leaving 0 (threeBytes register byte ++ drop 3 buffer)
 
 pub record Demand2 : Type 0 where
-  -- every transfer, and every bit, does what document 01 says
-  pub transfers : TransferIsConnected
-  pub bits : BitIsConnected
+  -- every call does what document 01 says of its link and of its transfer, and so does every sequence
+  pub calls : CallIsConnected
   pub sequences : SequencesAsDefined
   pub replies : RepliesToReads
+  pub resets : ResetIsFresh
+  pub selectLow : SelectLowIdles
   pub draws : DrawnIsPicture
   -- what the sender writes is received as the bytes given; and so are writes over the other links
   pub sends : SendsThreeBytes

@@ -10,28 +10,32 @@ use mathlib.Core.Path.{_≡_}
 use lib.ListN.{getD}
 use Rattle.base.specs.Choice.{if_then_else_}
 use Rattle.base.specs.Painting.{count}
-use Rattle.links.specs.declared.Transfer.{Transfer}
-use Rattle.picture.specs.Picture.{Seen, picture}
+use Rattle.controller.specs.Transfers.{Acted, performed}
+use Rattle.events.specs.declared.Event.{Event}
+use Rattle.events.specs.declared.Transfer.{Transfer}
+use Rattle.events.specs.declared.Transfer.the-variants.{Write}
+use Rattle.table.specs.declared.Target.the-variants.{Glyph, Graphic}
+use Rattle.events.specs.declared.Deed.the-variants.{Whole}
+use Rattle.picture.specs.Picture.{Seen, pictured}
 use Rattle.repaint.specs.Repaint.{named}
 use Rattle.lent.specs.State.{State, freshState, Valid}
-use Rattle.lent.specs.Calls.{Call, Taken, otherLink, taken, takenBy, called, after}
-use Rattle.sequences.specs.Carried.{carries, whole, isData}
-use Rattle.sequences.specs.Wires.{Fits}
+use Rattle.lent.specs.Calls.{takenOn, reaching, Fits, called, after}
+use Rattle.sequences.specs.Wires.{isData}
 
 -- the picture of a state
 abbrev pub pictureOf : Seen → State → List ℕ
-pictureOf e s = picture e (s .memories) (s .control)
+pictureOf e s = pictured e (s .memories) (s .control)
 
--- the places that a call names, in the state that it leaves; one of the other link names none
-abbrev pub namedTaken : Taken → ℕ → Bool
-namedTaken otherLink i = false
-namedTaken (taken x) i = named (x .acted .memories) (x .acted .done .control) (x .acted .done .region) i
+-- the places that a deed names, in the state that it leaves
+abbrev pub namedActed : Acted → ℕ → Bool
+namedActed a i = named (a .done .control .view) (a .memories .text) (a .done .region) i
 
-abbrev pub namedBy : State → Call → ℕ → Bool
-namedBy s call = namedTaken (takenBy (s .memories) (s .control) (s .link) call)
+-- a call names what that names which of it reaches the controller
+abbrev pub namedBy : State → Event → ℕ → Bool
+namedBy s call = namedActed (performed (s .memories) (s .control) (reaching (takenOn s call)))
 
 -- the places that some call of a sequence names
-unfoldable pub everNamed : Seen → State → List ℕ → List Call → ℕ → Bool
+unfoldable pub everNamed : Seen → State → List ℕ → List Event → ℕ → Bool
 everNamed e s frame [] i = false
 everNamed e s frame (call ∷ calls) i =
     namedBy s call i || everNamed e (called e s frame call .state) (called e s frame call .frame) calls i
@@ -39,14 +43,14 @@ everNamed e s frame (call ∷ calls) i =
 -- from a frame that equals the picture, any sequence of calls leaves the picture drawn afresh
 abbrev pub PictureStands : Type 0
 PictureStands =
-    (e : Seen) (s : State) (calls : List Call)
+    (e : Seen) (s : State) (calls : List Event)
     → Valid s
     → after e s (pictureOf e s) calls .frame ≡ pictureOf e (after e s (pictureOf e s) calls .state)
 
 -- on any frame, the bytes that were named are the picture's, and no other byte is altered
 abbrev pub NamedBytesShown : Type 0
 NamedBytesShown =
-    (e : Seen) (s : State) (frame : List ℕ) (calls : List Call) (i : ℕ)
+    (e : Seen) (s : State) (frame : List ℕ) (calls : List Event) (i : ℕ)
     → Valid s
     → Fits e frame
     → i < 1024
@@ -56,30 +60,47 @@ NamedBytesShown =
 -- the reported number is the number of bytes named
 abbrev pub CountIsNumber : Type 0
 CountIsNumber =
-    (e : Seen) (s : State) (frame : List ℕ) (call : Call)
+    (e : Seen) (s : State) (frame : List ℕ) (call : Event)
     → Fits e frame
     → called e s frame call .count ≡ count 1024 (namedBy s call)
 
 -- with S = 0 a data transfer, whatever link it came over, never names more than 64
 abbrev pub AtMost64 : Type 0
 AtMost64 =
-    (e : Seen) (s : State) (frame : List ℕ) (call : Call) (t : Transfer)
-    → carries (s .control) (s .link) call ≡ whole t
+    (e : Seen) (s : State) (frame : List ℕ) (call : Event) (t : Transfer)
+    → reaching (takenOn s call) ≡ Whole t
     → isData t ≡ true
     → s .control .entry .s ≡ false
     → called e s frame call .count ≤ 64
+
+-- a glyph write names at most 32, and a graphic write one
+abbrev pub GlyphAtMost32 : Type 0
+GlyphAtMost32 =
+    (e : Seen) (s : State) (frame : List ℕ) (call : Event) (byte : ℕ)
+    → reaching (takenOn s call) ≡ Whole (Write byte)
+    → s .control .place .target ≡ Glyph
+    → called e s frame call .count ≤ 32
+
+abbrev pub GraphicAtMost1 : Type 0
+GraphicAtMost1 =
+    (e : Seen) (s : State) (frame : List ℕ) (call : Event) (byte : ℕ)
+    → reaching (takenOn s call) ≡ Whole (Write byte)
+    → s .control .place .target ≡ Graphic
+    → called e s frame call .count ≤ 1
 
 -- a fresh panel is valid, and every call hands on a valid state
 abbrev pub FreshIsValid : Type 0
 FreshIsValid = (parallel : Bool) → Valid (freshState parallel)
 
 abbrev pub StaysValid : Type 0
-StaysValid = (e : Seen) (s : State) (frame : List ℕ) (calls : List Call) → Valid s → Valid (after e s frame calls .state)
+StaysValid = (e : Seen) (s : State) (frame : List ℕ) (calls : List Event) → Valid s → Valid (after e s frame calls .state)
 
 pub record Demand3 : Type 0 where
   pub stands : PictureStands
   pub shown : NamedBytesShown
   pub counts : CountIsNumber
   pub bounded : AtMost64
+  pub glyphBounded : GlyphAtMost32
+  pub graphicBounded : GraphicAtMost1
   pub begins : FreshIsValid
   pub valid : StaysValid

@@ -7,32 +7,33 @@ use mathlib.Core.List.{List, [], _∷_, map}
 use mathlib.Core.Path.{_≡_}
 use lib.ListN.{replicate, getD}
 use Rattle.controller.specs.Memories.{wordPlace, graphicPlace, freshMemories}
-use Rattle.links.specs.declared.Transfer.the-variants.{Instruct, Write, Status, Read}
+use Rattle.events.specs.declared.Event.{Event}
+use Rattle.events.specs.declared.Event.the-variants.{Transfer, Bit}
+use Rattle.events.specs.declared.Transfer.the-variants.{Instruct, Write, Status, Read}
 use Rattle.links.specs.Items.{bitsOf}
 use Rattle.glyph.specs.declared.Code.the-variants.{Number}
 use Rattle.glyph.specs.Numbering.{numberOf}
 use Rattle.picture.specs.Picture.{Seen}
 use Rattle.lent.specs.State.{State, freshState}
-use Rattle.lent.specs.Calls as calls
-use Rattle.lent.specs.Calls.{Call, transfer, after}
+use Rattle.lent.specs.Calls.{after}
 use Rattle.sequences.specs.Wires.{answers}
 
 -- the calls as the table writes them
-abbrev pub instruct : ℕ → Call
-instruct byte = transfer (Instruct byte)
+abbrev pub instruct : ℕ → Event
+instruct byte = Transfer (Instruct byte)
 
-abbrev pub write : ℕ → Call
-write byte = transfer (Write byte)
+abbrev pub write : ℕ → Event
+write byte = Transfer (Write byte)
 
-abbrev pub status : Call
-status = transfer Status
+abbrev pub status : Event
+status = Transfer Status
 
-abbrev pub read : Call
-read = transfer Read
+abbrev pub read : Event
+read = Transfer Read
 
 -- serial bytes, bit by bit with chip select high
-abbrev pub bytes : List ℕ → List Call
-bytes bs = map calls.bit (bitsOf bs)
+abbrev pub bytes : List ℕ → List Event
+bytes bs = map Bit (bitsOf bs)
 
 -- what is read off: of all calls in their order the replies, the counts or the refusal numbers; at the end a word of text or graphic
 -- memory, RE and G, or that the memories are as fresh; or the number of a glyph's code
@@ -51,16 +52,16 @@ pub record Row : Type 0 where
   pub case : ℕ
   pub parallel : Bool
   pub frame : ℕ
-  pub calls : List Call
+  pub calls : List Event
   pub readings : List Reading
 
-abbrev pub row : ℕ → List Call → List Reading → Row
+abbrev pub row : ℕ → List Event → List Reading → Row
 row case calls readings = record { case = case; parallel = true; frame = 1024; calls = calls; readings = readings }
 
-abbrev pub serialRow : ℕ → List Call → List Reading → Row
+abbrev pub serialRow : ℕ → List Event → List Reading → Row
 serialRow case calls readings = record { case = case; parallel = false; frame = 1024; calls = calls; readings = readings }
 
-abbrev pub framed : ℕ → ℕ → List Call → List Reading → Row
+abbrev pub framed : ℕ → ℕ → List Event → List Reading → Row
 framed case length calls readings = record { case = case; parallel = true; frame = length; calls = calls; readings = readings }
 
 unfoldable pub table : List Row

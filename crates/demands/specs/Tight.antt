@@ -12,22 +12,24 @@ use Rattle.links.specs.Sender.{Sent, sent}
 use Rattle.picture.specs.Picture.{Seen}
 use Rattle.picture.specs.Refusals as refusals
 use Rattle.picture.specs.Refusals.{Drawn, drawn}
+use Rattle.events.specs.declared.Event.{Event}
 use Rattle.lent.specs.declared.Answer as lent
 use Rattle.lent.specs.State.{State, freshState}
-use Rattle.lent.specs.Calls.{Call, Called, called, left}
+use Rattle.lent.specs.Calls.{Called, called, left}
 use Rattle.panel.specs.declared.Panel.{Panel}
 use Rattle.panel.specs.declared.Outcome as panel
 use Rattle.panel.specs.Handed.{stateOf, memoriesOf, handed}
 use Rattle.capture.specs.declared.Answer.{Answer}
 use Rattle.capture.specs.declared.Reader.{Reader}
 use Rattle.capture.specs.Record.{answer, number}
-use Rattle.capture.specs.Capture.{answerAt}
+use Rattle.capture.specs.declared.Step.{Step}
+use Rattle.capture.specs.Capture.{stepAt}
 use Rattle.capture.specs.Reader as reader
 use Rattle.transcript.specs.declared.Stop.{Stop}
 use Rattle.transcript.specs.declared.Told.{Told}
 use Rattle.lines.specs.Text as lines
 use Rattle.transcript.specs.Transcript.{Transcribed, transcribed, tells}
-use Rattle.transcript.specs.Replay.{Stopped, stopped, stopsAt, replayed}
+use Rattle.transcript.specs.Replay.{Stopped, stopped, stopsAt, endless, replayed}
 use Rattle.packed.specs.Packed.{unpacked}
 use Rattle.boundary.specs.Report.{Report, report, freshReplay}
 use Rattle.glass.specs.Braille as brailleOf
@@ -54,7 +56,7 @@ pub record Given (S : Type 0) : Type 0 where
   pub seen : Seen
   pub state : S
   pub frame : List ℕ
-  pub call : Call
+  pub call : Event
 
 -- what `draw` is given
 pub record Drawing (S : Type 0) : Type 0 where
@@ -128,15 +130,14 @@ pub data PublicCall : Type 0 where
   -- transfer, bit, select_low and reset
   call : PublicCall
   draw : PublicCall
-  -- the same four on lent memories
+  -- the same on lent memories
   lentCall : PublicCall
   send : PublicCall
   read : PublicCall
   recordAt : PublicCall
   answerNumber : PublicCall
   readerOver : PublicCall
-  readerRead : PublicCall
-  readerMoved : PublicCall
+  readerStep : PublicCall
   replay : PublicCall
   transcribe : PublicCall
   putLast : PublicCall
@@ -185,10 +186,9 @@ contractOf send =
     }
 contractOf read = record { Input = List ℕ; Outcome = Answer; Left = Answer; leaves = λ r. r; means = answer }
 contractOf recordAt =
-    record { Input = At (List ℕ); Outcome = Answer; Left = Answer; leaves = λ r. r; means = λ i. answerAt (i .capture) (i .at) }
+    record { Input = At (List ℕ); Outcome = Step; Left = Step; leaves = λ r. r; means = λ i. stepAt (i .capture) (i .at) }
 contractOf answerNumber = record { Input = Answer; Outcome = ℕ; Left = ℕ; leaves = λ r. r; means = number }
-contractOf readerRead = record { Input = Reader; Outcome = Answer; Left = Answer; leaves = λ r. r; means = reader.found }
-contractOf readerMoved = record { Input = Reader; Outcome = Reader; Left = Reader; leaves = λ r. r; means = reader.moved }
+contractOf readerStep = record { Input = Reader; Outcome = Step; Left = Step; leaves = λ r. r; means = reader.stepped }
 contractOf readerOver =
     record { Input = At (RefT (List ℕ)); Outcome = Reader; Left = Reader; leaves = λ r. r; means = λ i. reader.over (i .capture) (i .at) }
 contractOf replay =
@@ -197,7 +197,7 @@ contractOf replay =
       Outcome = With Stop;
       Left = Stopped;
       leaves = λ x. stopsAt (x .result) (x .buffer);
-      means = λ i. stopped (replayed (i .seen) (i .capture) (stateOf (i .state)) (i .frame) 0);
+      means = λ i. stopped (replayed (i .seen) endless (i .capture) (stateOf (i .state)) (i .frame) 0);
     }
 contractOf transcribe =
     record {

@@ -1,2 +1,4 @@
 pub mod Inside
 pub mod Unread
+pub mod Copies
+pub mod Tiles

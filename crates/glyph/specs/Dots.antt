@@ -20,8 +20,11 @@ abbrev pub fullByte : List ℕ → ℕ → ℕ → Bool → ℕ
 fullByte font i y low = getD font (32 * i + 2 * y + half low) 0
 
 -- 02h..7Fh is a half glyph, the rest blank; half font: row y of code c at 16c + y
+abbrev pub hasHalf : ℕ → Bool
+hasHalf c = leb 0x02 c && leb c 0x7F
+
 unfoldable pub halfByte : List ℕ → ℕ → ℕ → ℕ
-halfByte font c y = if leb 0x02 c && leb c 0x7F then getD font (16 * c + y) 0 else 0
+halfByte font c y = if hasHalf c then getD font (16 * c + y) 0 else 0
 
 -- the left byte of glyph row y of what is shown (low = false), or the right one
 unfoldable pub dotsOf : List ℕ → List ℕ → List ℕ → Content → ℕ → Bool → ℕ

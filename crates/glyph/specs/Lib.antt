@@ -1,3 +1,4 @@
 pub mod Numbering
 pub mod Lookup
 pub mod Dots
+pub mod Tiles

@@ -4,6 +4,7 @@
 pub mod dots;
 pub mod lookup;
 pub mod numbering;
+pub mod tile;
 
 // The number that a code of two bytes has in the full font, or none.
 pub enum Code {

@@ -1,65 +1,37 @@
--- The paths through a call: refused for its buffers, refused as of the other link, or accepted; and which link takes which call.
+-- The paths through a call: refused for its buffers, refused as of the other link, or accepted.
 use Prim.Native.Nat.{ℕ}
-use mathlib.Core.Bool.{Bool}
 use mathlib.Core.Logic.{_≢_}
 use mathlib.Core.List.{List}
-use mathlib.Core.Path.{_≡_, refl, _∙_, sym, ap}
+use mathlib.Core.Path.{_≡_, _∙_, ap}
 use lib.ListN.{length}
 use borrow.Author.Tests.{eq-eqb, ne-eqb}
-use Rattle.controller.specs.declared.Control.{Control}
-use Rattle.controller.specs.Memories.{Memories}
-use Rattle.links.specs.declared.Link.{Link}
-use Rattle.links.specs.declared.Link.the-variants.{Parallel, Serial}
-use Rattle.links.specs.declared.Transfer.{Transfer}
-use Rattle.links.specs.declared.Pairing.{Pairing}
-use Rattle.links.specs.declared.Receiver.{Receiver}
+use Rattle.controller.specs.Transfers.{Acted, performed}
+use Rattle.events.specs.declared.Event.{Event}
+use Rattle.links.specs.declared.Carried.{Carried}
+use Rattle.links.specs.declared.Taken.{Taken}
+use Rattle.links.specs.declared.Taken.the-variants.{OtherLink, Carries}
 use Rattle.picture.specs.Picture.{Seen}
 use Rattle.picture.specs.Refusals.{refusalOf}
 use Rattle.lent.specs.State.{State}
-use Rattle.steps.specs.Steps.{Stepped, transferStep, bitStep, selectLowStep, resetStep}
-use Rattle.lent.specs.Calls.{Call, transfer, bit, selectLow, reset, otherLink, taken, takenBy, refused, accepted, unlessOther, called}
+use Rattle.lent.specs.Calls.{refused, accepted, unlessOther, takenOn, called}
 
-module _ (e : Seen) (s : State) (f : List ℕ) (call : Call) (n : ℕ) (is : n ≡ refusalOf (length f) (length (e .half)) (length (e .full))) where
-  pub refuses : n ≢ 0 → refused s f n ≡ called e s f call
+module _ (e : Seen) (s : State) (f : List ℕ) (event : Event) (n : ℕ) (is : n ≡ refusalOf (length f) (length (e .half)) (length (e .full))) where
+  pub refuses : n ≢ 0 → refused s f n ≡ called e s f event
   unfolding called
   refuses h = rw (← is, ne-eqb n 0 h)
 
-  admitted : n ≡ 0 → unlessOther e s f (takenBy (s .memories) (s .control) (s .link) call) ≡ called e s f call
+  admits : n ≡ 0 → (t : Taken) → t ≡ takenOn s event → unlessOther e s f t ≡ called e s f event
   unfolding called
-  admitted h = rw (← is, eq-eqb n 0 h)
+  admits h t q = ap (unlessOther e s f) q ∙ rw (← is, eq-eqb n 0 h)
 
-  pub refuses-other : n ≡ 0 → takenBy (s .memories) (s .control) (s .link) call ≡ otherLink → refused s f 5 ≡ called e s f call
-  refuses-other h t = sym (ap (unlessOther e s f) t) ∙ admitted h
+  pub refuses-other : n ≡ 0 → OtherLink ≡ takenOn s event → refused s f 5 ≡ called e s f event
+  refuses-other h q = admits h OtherLink q
 
-  pub accepts : n ≡ 0 → (x : Stepped) → takenBy (s .memories) (s .control) (s .link) call ≡ taken x → accepted e f x ≡ called e s f call
-  accepts h x t = sym (ap (unlessOther e s f) t) ∙ admitted h
-
-module _ (m : Memories) (c : Control) (l : Link) where
-  pub parallel-transfers : (p : Pairing) (t : Transfer) → l ≡ Parallel p → takenBy m c l (transfer t) ≡ taken (transferStep m c p t)
-  unfolding takenBy
-  parallel-transfers p t e = rw e
-
-  pub serial-transfers-not : (r : Receiver) (t : Transfer) → l ≡ Serial r → takenBy m c l (transfer t) ≡ otherLink
-  unfolding takenBy
-  serial-transfers-not r t e = rw e
-
-  pub serial-hears : (r : Receiver) (b : Bool) → l ≡ Serial r → takenBy m c l (bit b) ≡ taken (bitStep m c r b)
-  unfolding takenBy
-  serial-hears r b e = rw e
-
-  pub parallel-hears-not : (p : Pairing) (b : Bool) → l ≡ Parallel p → takenBy m c l (bit b) ≡ otherLink
-  unfolding takenBy
-  parallel-hears-not p b e = rw e
-
-  pub serial-selects : (r : Receiver) → l ≡ Serial r → takenBy m c l selectLow ≡ taken (selectLowStep m c)
-  unfolding takenBy
-  serial-selects r e = rw e
-
-  pub parallel-selects-not : (p : Pairing) → l ≡ Parallel p → takenBy m c l selectLow ≡ otherLink
-  unfolding takenBy
-  parallel-selects-not p e = rw e
-
-pub both-reset : (m : Memories) (c : Control) (l : Link) (parallel : Bool) → takenBy m c l (reset parallel) ≡ taken (resetStep parallel)
-unfolding takenBy
-both-reset m c (Parallel p) parallel = refl
-both-reset m c (Serial r) parallel = refl
+  pub accepts :
+      n ≡ 0
+      → (c : Carried)
+      → Carries c ≡ takenOn s event
+      → (a : Acted)
+      → a ≡ performed (s .memories) (s .control) (c .deed)
+      → accepted e f a (c .rest) ≡ called e s f event
+  accepts h c q a p = ap (λ (x : Acted). accepted e f x (c .rest)) p ∙ admits h (Carries c) q

@@ -1,103 +1,92 @@
--- Every call hands on a valid state: an accepted one by what each transfer keeps, a refused one as it was.
-use Prim.Native.Nat.{ℕ}
+-- What holds of every call: it hands on a valid state, a refused one changes nothing, the frame keeps its length, and no count passes
+-- that of its bytes. An accepted one by what each deed keeps, a refused one as it was.
+use Prim.Native.Nat.{ℕ, _≤_}
 use mathlib.Core.Bool.{Bool}
 use mathlib.Core.List.{List}
-use Prim.{Unit}
-use mathlib.Core.Path.{_≡_, sym, subst}
+use mathlib.Core.Path.{_≡_, refl, sym, subst}
+use native.Mathlib.Omega.{arith}
 use lib.ListN.{length}
 use lib.Dec.{eqb}
 use Rattle.base.proofs.Choice.{either}
-use Rattle.controller.specs.declared.Control.{Control}
+use Rattle.base.proofs.Counting.{count-le}
+use Rattle.base.proofs.Painting.{painted-length}
 use Rattle.controller.specs.Memories.{Memories}
 use Rattle.controller.specs.State as controls
-use Rattle.controller.specs.Transfers.{Acted}
-use Rattle.controller.proofs.Kept as kept
-use Rattle.links.specs.declared.Link.{Link}
-use Rattle.links.specs.declared.Link.the-variants.{Parallel, Serial}
-use Rattle.links.specs.declared.Transfer.{Transfer}
-use Rattle.links.specs.declared.Transfer.the-variants.{Instruct, Write, Status, Read}
-use Rattle.links.specs.declared.Pairing.{Pairing}
-use Rattle.links.specs.declared.Half.{Half}
-use Rattle.links.specs.declared.Half.the-variants.{Kept, Acts, Answers}
-use Rattle.links.specs.declared.Receiver.{Receiver}
-use Rattle.links.specs.declared.Received.{Received}
-use Rattle.links.specs.declared.Received.the-variants as received
-use Rattle.links.specs.Halves as halves
-use Rattle.links.specs.Serial.{heard}
+use Rattle.controller.specs.Transfers.{performed}
+use Rattle.controller.proofs.Kept.{fresh-valid, performed-valid}
+use Rattle.events.specs.declared.Event.{Event}
+use Rattle.events.specs.declared.Event.the-variants.{Reset}
+use Rattle.events.specs.declared.Pin.{Pin}
+use Rattle.links.specs.declared.Carried.{Carried}
+use Rattle.links.specs.declared.Taken.{Taken}
+use Rattle.links.specs.declared.Taken.the-variants.{OtherLink, Carries}
+use Rattle.links.specs.Taken.{takenBy}
 use Rattle.picture.specs.Picture.{Seen}
 use Rattle.picture.specs.Refusals.{refusalOf}
+use Rattle.repaint.specs.Repaint.{repainted, countNamed}
 use Rattle.lent.specs.State.{State, freshState, Valid}
-use Rattle.steps.specs.Steps.{Stepped, carriedOut, halfStep, transferStep, receivedActs, bitStep, selectLowStep, resetStep}
-use Rattle.lent.specs.Calls.{Call, transfer, bit, selectLow, reset, Taken, otherLink, taken, takenBy, Called, unlessOther, called, left}
+use Rattle.lent.specs.Calls.{Called, refused, accepted, unlessOther, takenOn, Fits, called, left}
 use Rattle.lent.specs.declared.Answer.{Answer}
-
--- what a transfer leaves is valid
-abbrev pub ActedValid : Acted → Type 0
-ActedValid a = controls.Valid (a .memories) (a .done .control)
 
 pub fresh-state-valid : (parallel : Bool) → Valid (freshState parallel)
 unfolding freshState
-fresh-state-valid parallel = kept.fresh-valid
+fresh-state-valid parallel = fresh-valid
 
-module _ (m : Memories) (c : Control) (v : controls.Valid m c) where
-  pub carriedOut-valid : (t : Transfer) → ActedValid (carriedOut m c t)
-  unfolding carriedOut
-  carriedOut-valid (Instruct byte) = kept.executed-valid m c byte v
-  carriedOut-valid (Write byte) = kept.written-valid m c byte v
-  carriedOut-valid Status = kept.statusRead-valid m c v
-  carriedOut-valid Read = kept.readOut-valid m c v
-
-  pub halfStep-valid : (h : Half) → ActedValid (halfStep m c h .acted)
-  halfStep-valid (Kept pairing) = v
-  halfStep-valid (Acts t) = carriedOut-valid t
-  halfStep-valid (Answers reply) = v
-
-  pub transferStep-valid : (pairing : Pairing) (t : Transfer) → ActedValid (transferStep m c pairing t .acted)
-  unfolding transferStep
-  transferStep-valid pairing t =
-      either (λ (x : Stepped). ActedValid (x .acted)) (c .function .dl) (carriedOut-valid t)
-      (halfStep-valid (halves.paired pairing t))
-
-  pub received-valid : (r : Received) → ActedValid (receivedActs m c r)
-  received-valid received.Nothing = v
-  received-valid (received.Byte register byte) = carriedOut-valid (halves.writing register byte)
-
-  pub bitStep-valid : (receiver : Receiver) (b : Bool) → ActedValid (bitStep m c receiver b .acted)
-  unfolding bitStep
-  bitStep-valid receiver b = received-valid (heard receiver b .received)
-
--- what comes of a call is valid
-abbrev TakenValid : Taken → Type 0
-TakenValid otherLink = Unit {0}
-TakenValid (taken x) = ActedValid (x .acted)
-
-taken-valid : (m : Memories) (c : Control) (l : Link) (call : Call) → controls.Valid m c → TakenValid (takenBy m c l call)
-unfolding takenBy selectLowStep resetStep
-taken-valid m c (Parallel pairing) (transfer t) v = transferStep-valid m c v pairing t
-taken-valid m c (Serial receiver) (transfer t) v = tt
-taken-valid m c (Parallel pairing) (bit b) v = tt
-taken-valid m c (Serial receiver) (bit b) v = bitStep-valid m c v receiver b
-taken-valid m c (Parallel pairing) selectLow v = tt
-taken-valid m c (Serial receiver) selectLow v = v
-taken-valid m c (Parallel pairing) (reset parallel) v = kept.fresh-valid
-taken-valid m c (Serial receiver) (reset parallel) v = kept.fresh-valid
-
-unlessOther-valid : (e : Seen) (s : State) (frame : List ℕ) (t : Taken) → Valid s → TakenValid t → Valid (unlessOther e s frame t .state)
-unlessOther-valid e s frame otherLink v w = v
-unlessOther-valid e s frame (taken x) v w = w
-
-pub called-valid : (e : Seen) (s : State) (frame : List ℕ) (call : Call) → Valid s → Valid (called e s frame call .state)
+-- what holds of a refused call, and of every accepted one, holds of every call
+pub of-call :
+    (P : Called → Type 0) (e : Seen) (s : State) (frame : List ℕ) (event : Event)
+    → ((n : ℕ) → P (refused s frame n))
+    → ((c : Carried) → P (accepted e frame (performed (s .memories) (s .control) (c .deed)) (c .rest)))
+    → P (called e s frame event)
 unfolding called
-called-valid e s frame call v =
-    either (λ (k : Called). Valid (k .state)) (eqb (refusalOf (length frame) (length (e .half)) (length (e .full))) 0)
-    (unlessOther-valid e s frame (takenBy (s .memories) (s .control) (s .link) call) v
-    (taken-valid (s .memories) (s .control) (s .link) call v))
-    v
+of-call P e s frame event ref acc =
+    either P (eqb (refusalOf (length frame) (length (e .half)) (length (e .full))) 0) (by (takenOn s event)) (ref _)
+  where
+    by : (t : Taken) → P (unlessOther e s frame t)
+    by OtherLink = ref 5
+    by (Carries c) = acc c
+
+pub called-valid : (e : Seen) (s : State) (frame : List ℕ) (event : Event) → Valid s → Valid (called e s frame event .state)
+called-valid e s frame event v =
+    of-call (λ (k : Called). Valid (k .state)) e s frame event (λ n. v) (λ c. performed-valid (s .memories) (s .control) v (c .deed))
 
 -- so what a call leaves is valid
 pub left-valid :
-    (e : Seen) (s : State) (f g : List ℕ) (call : Call) (r : Answer) (m : Memories)
-    → left r m g ≡ called e s f call
+    (e : Seen) (s : State) (f g : List ℕ) (event : Event) (r : Answer) (m : Memories)
+    → left r m g ≡ called e s f event
     → Valid s
     → controls.Valid m (r .control)
-left-valid e s f g call r m h v = subst (λ (k : Called). Valid (k .state)) (sym h) (called-valid e s f call v)
+left-valid e s f g event r m h v = subst (λ (k : Called). Valid (k .state)) (sym h) (called-valid e s f event v)
+
+-- a call that is refused leaves what a refusal leaves
+abbrev pub Unmoved : State → List ℕ → Called → Type 0
+Unmoved s frame k = (k .number ≡ 0 → ⊥) → k ≡ refused s frame (k .number)
+
+module _ (e : Seen) (s : State) (frame : List ℕ) (event : Event) where
+  pub called-unmoved : Unmoved s frame (called e s frame event)
+  called-unmoved = of-call (Unmoved s frame) e s frame event (λ n h. refl) (λ c h. absurd (h refl))
+
+  pub called-count : called e s frame event .count ≤ 1024
+  unfolding countNamed
+  called-count = of-call (λ (k : Called). k .count ≤ 1024) e s frame event (λ n. omega arith) (λ c. count-le 1024 _)
+
+  pub called-length : length (called e s frame event .frame) ≡ length frame
+  unfolding repainted
+  called-length = of-call (λ (k : Called). length (k .frame) ≡ length frame) e s frame event (λ n. refl) (λ c. painted-length _ _ frame)
+
+  -- with frame and fonts of the right lengths a call is what its link makes of the event
+  pub admitted : Fits e frame → called e s frame event ≡ unlessOther e s frame (takenOn s event)
+  unfolding called
+  admitted h = rw h
+
+  -- and they keep these lengths
+  pub still-fits : Fits e frame → Fits e (called e s frame event .frame)
+  still-fits h = rw called-length h
+
+-- reset gives fresh, with its pin
+pub reset-fresh :
+    (e : Seen) (s : State) (frame : List ℕ) (pin : Pin)
+    → Fits e frame
+    → called e s frame (Reset pin) .state ≡ freshState (pin .parallel)
+unfolding takenBy performed freshState
+reset-fresh e s frame pin h = rw (admitted e s frame (Reset pin) h)

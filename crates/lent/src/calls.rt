@@ -1,26 +1,25 @@
-// The calls on memories that the caller keeps and lends, for a board where a serial link brings a call for every bit.
-// Each leaves what the call by value of the same name leaves.
+// A call on memories that the caller keeps and lends, for a board where a serial link brings a call for every bit.
+// It leaves what the call by value leaves.
 use crate::Answer;
-use crate::Pin;
 use controller::Control;
+use controller::Done;
+use controller::transfers::perform;
+use events::Event;
 use links::Link;
-use links::Transfer;
+use links::Rest;
+use links::Taken;
+use picture::looks::look;
 use picture::refusals::refusal;
 use repaint::paint;
-use steps::Step;
-use steps::bit_step;
-use steps::reset_step;
-use steps::select_low_step;
-use steps::transfer_step;
 ghost use mathlib.Core.Path.{_≡_};
 ghost use lib.ListN.{length};
 ghost use Rattle.controller.specs.Memories.{before, after};
 ghost use Rattle.controller.specs.State.{InRange};
+ghost use Rattle.controller.specs.Transfers.{acted};
 ghost use Rattle.picture.specs.Picture.{seen};
 ghost use Rattle.repaint.specs.Repaint.{regionWithin};
 ghost use Rattle.lent.specs.State.{state};
-ghost use Rattle.steps.specs.Steps.{stepLeft};
-ghost use Rattle.lent.specs.Calls.{transfer, bit, selectLow, reset, refusedAnswer, accepted, called, left};
+ghost use Rattle.lent.specs.Calls.{refusedAnswer, accepted, called, left};
 
 // A refused call: nothing changes, reply 0, count 0.
 fn refused(control: Control, link: Link, number: u8) -> Answer
@@ -35,154 +34,65 @@ fn refused(control: Control, link: Link, number: u8) -> Answer
     }
 }
 
-// An accepted call: what it names is painted and counted.
+// An accepted call: what it names is painted and counted, and the answer goes back.
 fn show(
     text: &[u8; 128],
     glyph: &[u8; 128],
     graphic: &[u8; 2048],
-    step: Step,
+    done: Done,
+    rest: Rest,
     frame: &mut [u8],
     half: &[u8],
     full: &[u8],
     phase: bool,
 ) -> Answer
-    requires { ⌜ InRange (step .done .control) × regionWithin (step .done .region) × (length (now frame) ≡ 1024) × (length (now half) ≡ 2048) ⌝ }
-    ensures { λ r. ⌜ left r (before text glyph graphic) (now (frame .exit)) ≡ accepted (seen half full phase) (now (frame .entry)) (stepLeft step (before text glyph graphic)) ⌝ }
+    requires { ⌜ InRange (done .control) × regionWithin (done .region) × (length (now frame) ≡ 1024) × (length (now half) ≡ 2048) ⌝ }
+    ensures { λ r. ⌜ left r (before text glyph graphic) (now (frame .exit)) ≡ accepted (seen half full phase) (now (frame .entry)) (acted (before text glyph graphic) done) rest ⌝ }
 {
-    let done = step.done;
     let control = done.control;
     let region = done.region;
-    let count = paint(
-        text,
-        glyph,
-        graphic,
-        control,
-        region,
-        frame,
-        half,
-        full,
-        phase,
-    );
-    let link = step.link;
+    let look = look(control, phase);
+    let count = paint(text, glyph, graphic, look, region, frame, half, full);
+    let replied = links::reply(rest, done.reply);
+    let link = replied.link;
     Answer {
         control,
         link,
         number: 0,
-        reply: done.reply,
+        reply: replied.reply,
         count,
     }
 }
 
-// A transfer of the parallel link.
-pub fn transfer(
+// An event comes to the panel.
+pub fn call(
     text: &mut [u8; 128],
     glyph: &mut [u8; 128],
     graphic: &mut [u8; 2048],
     control: Control,
     link: Link,
-    given: Transfer,
+    event: Event,
     frame: &mut [u8],
     half: &[u8],
     full: &[u8],
     phase: bool,
 ) -> Answer
     requires { ⌜ InRange control ⌝ }
-    ensures { λ r. ⌜ left r (after text glyph graphic) (now (frame .exit)) ≡ called (seen half full phase) (state (before text glyph graphic) control link) (now (frame .entry)) (transfer given) ⌝ }
+    ensures { λ r. ⌜ left r (after text glyph graphic) (now (frame .exit)) ≡ called (seen half full phase) (state (before text glyph graphic) control link) (now (frame .entry)) event ⌝ }
     ensures valid { λ r. ⌜ InRange (r .control) ⌝ }
 {
     let number = refusal(frame.len(), half.len(), full.len());
     if number != 0 {
         return refused(control, link, number);
     }
-    match link {
-        Link::Parallel(pairing) => {
-            let step = transfer_step(text, glyph, graphic, control, pairing, given);
-            show(text, glyph, graphic, step, frame, half, full, phase)
-        }
-        Link::Serial(_) => refused(control, link, 5),
-    }
-}
-
-// One bit of the serial link, with chip select high.
-pub fn bit(
-    text: &mut [u8; 128],
-    glyph: &mut [u8; 128],
-    graphic: &mut [u8; 2048],
-    control: Control,
-    link: Link,
-    given: bool,
-    frame: &mut [u8],
-    half: &[u8],
-    full: &[u8],
-    phase: bool,
-) -> Answer
-    requires { ⌜ InRange control ⌝ }
-    ensures { λ r. ⌜ left r (after text glyph graphic) (now (frame .exit)) ≡ called (seen half full phase) (state (before text glyph graphic) control link) (now (frame .entry)) (bit given) ⌝ }
-    ensures valid { λ r. ⌜ InRange (r .control) ⌝ }
-{
-    let number = refusal(frame.len(), half.len(), full.len());
-    if number != 0 {
-        return refused(control, link, number);
-    }
-    match link {
-        Link::Parallel(_) => refused(control, link, 5),
-        Link::Serial(receiver) => {
-            let step = bit_step(text, glyph, graphic, control, receiver, given);
-            show(text, glyph, graphic, step, frame, half, full, phase)
+    let taken = links::take(control.function.dl, link, event);
+    match taken {
+        Taken::OtherLink => refused(control, link, 5),
+        Taken::Carries(carried) => {
+            let deed = carried.deed;
+            let done = perform(text, glyph, graphic, control, deed);
+            let rest = carried.rest;
+            show(text, glyph, graphic, done, rest, frame, half, full, phase)
         }
     }
-}
-
-// Chip select low on the serial link. Of the memories it changes nothing, so it is lent them to look at.
-pub fn select_low(
-    text: &[u8; 128],
-    glyph: &[u8; 128],
-    graphic: &[u8; 2048],
-    control: Control,
-    link: Link,
-    frame: &mut [u8],
-    half: &[u8],
-    full: &[u8],
-    phase: bool,
-) -> Answer
-    requires { ⌜ InRange control ⌝ }
-    ensures { λ r. ⌜ left r (before text glyph graphic) (now (frame .exit)) ≡ called (seen half full phase) (state (before text glyph graphic) control link) (now (frame .entry)) selectLow ⌝ }
-    ensures valid { λ r. ⌜ InRange (r .control) ⌝ }
-{
-    let number = refusal(frame.len(), half.len(), full.len());
-    if number != 0 {
-        return refused(control, link, number);
-    }
-    match link {
-        Link::Parallel(_) => refused(control, link, 5),
-        Link::Serial(_) => {
-            let step = select_low_step(text, glyph, graphic, control);
-            show(text, glyph, graphic, step, frame, half, full, phase)
-        }
-    }
-}
-
-// Reset, on either link.
-pub fn reset(
-    text: &mut [u8; 128],
-    glyph: &mut [u8; 128],
-    graphic: &mut [u8; 2048],
-    control: Control,
-    link: Link,
-    pin: Pin,
-    frame: &mut [u8],
-    half: &[u8],
-    full: &[u8],
-    phase: bool,
-) -> Answer
-    requires { ⌜ InRange control ⌝ }
-    ensures { λ r. ⌜ left r (after text glyph graphic) (now (frame .exit)) ≡ called (seen half full phase) (state (before text glyph graphic) control link) (now (frame .entry)) (reset (pin .parallel)) ⌝ }
-    ensures valid { λ r. ⌜ InRange (r .control) ⌝ }
-{
-    let number = refusal(frame.len(), half.len(), full.len());
-    if number != 0 {
-        return refused(control, link, number);
-    }
-    let step = reset_step(text, glyph, graphic, pin.parallel);
-    show(text, glyph, graphic, step, frame, half, full, phase)
 }

@@ -1,15 +1,17 @@
 -- Two half bytes of one kind are one transfer: of a write with the byte of both, of a read with its answer in two parts.
 use Prim.Native.Nat.{ℕ, _<_}
-use mathlib.Core.Path.{_≡_, refl, ap, _∙_}
+use mathlib.Core.Path.{_≡_, refl, ap, _∙_, subst}
 use mathlib.Core.Bool.{Bool, true, false}
 use native.Mathlib.Omega.{arith}
 use Rattle.base.specs.Bits.{bits3-0}
-use Rattle.links.specs.declared.Transfer.the-variants.{Status, Read}
+use Rattle.events.specs.declared.Transfer.the-variants.{Status, Read}
 use Rattle.links.specs.declared.Pairing.the-variants.{Empty, Upper, Lower}
-use Rattle.links.specs.declared.Half.the-variants.{Kept, Acts}
-use Rattle.links.specs.Halves.{bits7-4, raised, joined, writing, writeHalf, readHalf, paired, firstReply}
+use Rattle.events.specs.declared.Deed.the-variants.{Whole}
+use Rattle.links.specs.declared.Link.the-variants.{Parallel}
+use Rattle.links.specs.Halves.{bits7-4, raised, joined, writing, kept, acts, writeHalf, readHalf, paired, firstReply}
+use Rattle.links.specs.Taken.{byWidth}
 use Rattle.links.specs.Items.{above}
-use Rattle.links.specs.Connector.{Answered, Controller, Replied}
+use Rattle.links.specs.Connector.{Answered, Controller, Outcome, comes}
 use Rattle.links.specs.Statements.{InHalves, SecondHalfActs, HalvesReadWhole}
 
 -- bits 3..0 do not count
@@ -19,13 +21,13 @@ low-bits-lost half low h = omega arith
 halves-join : (byte : ℕ) → byte < 256 → joined (bits7-4 byte) (bits3-0 byte) ≡ byte
 halves-join byte h = omega arith
 
-first-kept : (register : Bool) (value : ℕ) → paired Empty (writing register value) ≡ Kept (Upper register (bits7-4 value))
+first-kept : (register : Bool) (value : ℕ) → paired Empty (writing register value) ≡ kept register (bits7-4 value)
 unfolding paired writeHalf
 first-kept false value = refl
 first-kept true value = refl
 
 second-acts : (register : Bool) (upper value : ℕ) →
-    paired (Upper register upper) (writing register value) ≡ Acts (writing register (joined upper (bits7-4 value)))
+    paired (Upper register upper) (writing register value) ≡ acts (writing register (joined upper (bits7-4 value)))
 unfolding paired writeHalf
 second-acts false upper value = refl
 second-acts true upper value = refl
@@ -33,10 +35,10 @@ second-acts true upper value = refl
 pub second-half-acts : SecondHalfActs
 second-half-acts register byte h low other = (
   first-kept register (above (bits7-4 byte) low)
-      ∙ ap (λ (half : ℕ). Kept (Upper register half)) (low-bits-lost (bits7-4 byte) low (omega arith)),
+      ∙ ap (kept register) (low-bits-lost (bits7-4 byte) low (omega arith)),
   second-acts register (bits7-4 byte) (above (bits3-0 byte) other)
-      ∙ ap (λ (half : ℕ). Acts (writing register (joined (bits7-4 byte) half))) (low-bits-lost (bits3-0 byte) other (omega arith))
-      ∙ ap (λ (b : ℕ). Acts (writing register b)) (halves-join byte h),
+      ∙ ap (λ (half : ℕ). acts (writing register (joined (bits7-4 byte) half))) (low-bits-lost (bits3-0 byte) other (omega arith))
+      ∙ ap (λ (b : ℕ). acts (writing register b)) (halves-join byte h),
 )
 
 -- the two parts of an answer, as they stand on the wires, are the answer
@@ -49,25 +51,25 @@ raised-zeros half = omega arith
 
 module _ {S : Type 0} (register : Bool) (a : Answered S) (later : S) where
   -- a read whose answer is known: as one byte, and at its two halves
-  abbrev one : Replied S
-  one = record { at = record { state = a .state; link = Empty }; reply = a .answer }
+  abbrev one : Outcome S
+  one = record { at = record { state = a .state; link = Parallel Empty }; reply = a .answer }
 
-  abbrev first : Replied S
-  first = record { at = record { state = a .state; link = Lower register (bits3-0 (a .answer)) }; reply = firstReply (a .answer) }
+  abbrev first : Outcome S
+  first = record { at = record { state = a .state; link = Parallel (Lower register (bits3-0 (a .answer))) }; reply = firstReply (a .answer) }
 
-  abbrev second : Replied S
-  second = record { at = record { state = later; link = Empty }; reply = raised (bits3-0 (a .answer)) }
+  abbrev second : Outcome S
+  second = record { at = record { state = later; link = Parallel Empty }; reply = raised (bits3-0 (a .answer)) }
 
-  answer-in-halves : a .answer < 256 → InHalves one first second later
-  answer-in-halves h = record {
+  answer-in-halves : a .answer < 256 → (x : Outcome S) → comes second ≡ comes x → InHalves one first x later
+  answer-in-halves h x e = subst (λ (o : Outcome S). InHalves one first o later) (cc) (record {
     together = answer-joins (a .answer) h;
     zeros = (raised-zeros (bits7-4 (a .answer)), raised-zeros (bits3-0 (a .answer)));
     acts = refl;
     leaves = refl;
-  }
+  })
 
-module _ {S E : Type 0} (on : Controller S E) where
+module _ {S : Type 0} (on : Controller S) where
   pub halves-read-whole : HalvesReadWhole on
-  unfolding paired readHalf
-  halves-read-whole s later false h = answer-in-halves false (on .perform s Status) later h
-  halves-read-whole s later true h = answer-in-halves true (on .perform s Read) later h
+  unfolding byWidth paired readHalf
+  halves-read-whole idles s later false h x e = answer-in-halves false (on .perform s (Whole Status)) later h x (rw (idles later) at e)
+  halves-read-whole idles s later true h x e = answer-in-halves true (on .perform s (Whole Read)) later h x (rw (idles later) at e)

@@ -1,6 +1,5 @@
 pub mod Buffer
 pub mod WriteHeard
 pub mod Seldom
-pub mod SentReceived
 pub mod HalvesPaired
-pub mod Agreement
+pub mod ItemsAct

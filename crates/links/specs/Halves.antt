@@ -3,12 +3,14 @@ use Prim.Native.Nat.{ℕ, _+_, _*_, _/_}
 use mathlib.Core.Bool.{Bool, true, false, Bool·beq}
 use Rattle.base.specs.Choice.{if_then_else_}
 use Rattle.base.specs.Bits.{bits3-0}
-use Rattle.links.specs.declared.Transfer.{Transfer}
-use Rattle.links.specs.declared.Transfer.the-variants.{Instruct, Write, Status, Read}
+use Rattle.events.specs.declared.Transfer.{Transfer}
+use Rattle.events.specs.declared.Transfer.the-variants.{Instruct, Write, Status, Read}
 use Rattle.links.specs.declared.Pairing.{Pairing}
 use Rattle.links.specs.declared.Pairing.the-variants.{Empty, Upper, Lower}
-use Rattle.links.specs.declared.Half.{Half}
-use Rattle.links.specs.declared.Half.the-variants.{Kept, Acts, Answers}
+use Rattle.links.specs.declared.Link.the-variants.{Parallel}
+use Rattle.events.specs.declared.Deed.the-variants.{Nothing, Whole}
+use Rattle.links.specs.declared.Rest.the-variants.{Stays, Halved, Handed}
+use Rattle.links.specs.declared.Carried.{Carried}
 
 -- the number that bits 7..4 make
 abbrev pub bits7-4 : ℕ → ℕ
@@ -33,24 +35,32 @@ reading false = Status
 reading true = Read
 
 -- a write's first half: nothing acts, its upper half is open
-abbrev pub kept : Bool → ℕ → Half
-kept register upper = Kept (Upper register upper)
+abbrev pub kept : Bool → ℕ → Carried
+kept register upper = record { deed = Nothing; rest = Stays (Parallel (Upper register upper)) }
+
+-- a write's second half, or a read's first: the whole transfer acts
+abbrev pub acts : Transfer → Carried
+acts t = record { deed = Whole t; rest = Halved t }
+
+-- a read's second half: nothing acts, this is the reply
+abbrev pub handed : ℕ → Carried
+handed reply = record { deed = Nothing; rest = Handed reply }
 
 -- a write acts at its second half byte; bits 7..4 count, upper half first
-unfoldable pub writeHalf : Pairing → Bool → ℕ → Half
+unfoldable pub writeHalf : Pairing → Bool → ℕ → Carried
 writeHalf Empty register value = kept register (bits7-4 value)
 writeHalf (Upper was upper) register value =
-    if Bool·beq was register then Acts (writing register (joined upper (bits7-4 value))) else kept register (bits7-4 value)
+    if Bool·beq was register then acts (writing register (joined upper (bits7-4 value))) else kept register (bits7-4 value)
 writeHalf (Lower was lower) register value = kept register (bits7-4 value)
 
 -- a read acts at its first; its second half only hands over the low four bits of the same answer
-unfoldable pub readHalf : Pairing → Bool → Half
-readHalf Empty register = Acts (reading register)
-readHalf (Upper was upper) register = Acts (reading register)
-readHalf (Lower was lower) register = if Bool·beq was register then Answers (raised lower) else Acts (reading register)
+unfoldable pub readHalf : Pairing → Bool → Carried
+readHalf Empty register = acts (reading register)
+readHalf (Upper was upper) register = acts (reading register)
+readHalf (Lower was lower) register = if Bool·beq was register then handed (raised lower) else acts (reading register)
 
 -- one half-byte transfer: if the second differs from the first in kind, the first is dropped and the new one is a first
-unfoldable pub paired : Pairing → Transfer → Half
+unfoldable pub paired : Pairing → Transfer → Carried
 paired pairing (Instruct value) = writeHalf pairing false value
 paired pairing (Write value) = writeHalf pairing true value
 paired pairing Status = readHalf pairing false

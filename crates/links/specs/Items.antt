@@ -1,12 +1,24 @@
--- Document 01, "Links": lists of writes, and how each link's wires spell them.
+-- Document 01, "Links": lists of whole writes, and what stands on the wires for them.
 use Prim.Native.Nat.{ℕ, _+_, _≤_, _<_}
 use mathlib.Core.Path.{_≡_}
-use mathlib.Core.Bool.{Bool, false}
+use mathlib.Core.Bool.{Bool, true, false}
 use mathlib.Core.List.{List, [], _∷_, _++_, map}
 use Rattle.base.specs.Bits.{bit, bits3-0}
-use Rattle.links.specs.declared.Transfer.{Transfer}
+use Rattle.events.specs.declared.Event.{Event}
+use Rattle.events.specs.declared.Event.the-variants.{Transfer, Bit}
+use Rattle.events.specs.declared.Deed.{Deed}
+use Rattle.events.specs.declared.Deed.the-variants.{Whole}
+use Rattle.links.specs.declared.Link.{Link}
+use Rattle.links.specs.declared.Link.the-variants.{Parallel, Serial}
+use Rattle.links.specs.declared.Pairing.the-variants.{Empty}
+use Rattle.links.specs.declared.Sync.{Sync}
+use Rattle.links.specs.declared.Sync.the-variants.{Body}
+use Rattle.links.specs.declared.Receiver.the-variants.{Outside}
+use Rattle.links.specs.declared.Taken.the-variants.{Carries}
 use Rattle.links.specs.Halves.{bits7-4, raised, writing}
+use Rattle.links.specs.Idle.{idle}
 use Rattle.links.specs.Sender.{threeBytes}
+use Rattle.links.specs.Taken.{stays, takenBy}
 
 -- a byte written to a register
 pub record WholeWrite : Type 0 where
@@ -14,33 +26,31 @@ pub record WholeWrite : Type 0 where
   pub byte : ℕ
   pub small : byte < 256
 
--- what comes in turn, or an event beside the wires that is the same on each link
-pub data Turn (A E : Type 0) : Type 0 where
-  comes : A → Turn A E
-  happens : E → Turn A E
+-- an event beside the wires: each link hands it on alike, and stays as it is
+pub record Beside : Type 0 where
+  pub event : Event
+  pub deed : Deed
+  pub alike : (dl : Bool) (link : Link) → takenBy dl link event ≡ Carries (stays deed link)
 
--- whole writes, with any other events between them
-abbrev pub Items : Type 0 → Type 0
-Items E = List (Turn WholeWrite E)
+-- whole writes, with any events beside the wires between them
+pub data Item : Type 0 where
+  write : WholeWrite → Item
+  beside : Beside → Item
 
--- over bytes: one transfer, one byte
-unfoldable pub asBytes : {E : Type 0} → Items E → List (Turn Transfer E)
-asBytes [] = []
-asBytes (comes w ∷ items) = comes (writing (w .register) (w .byte)) ∷ asBytes items
-asBytes (happens e ∷ items) = happens e ∷ asBytes items
+-- what an item is to the controller
+abbrev pub deed : Item → Deed
+deed (write w) = Whole (writing (w .register) (w .byte))
+deed (beside x) = x .deed
+
+-- the ways that a list of items may come; half bytes with what stands in bits 3..0 of each transfer in turn
+pub data Way : Type 0 where
+  bytes : Way
+  halves : (ℕ → ℕ) → Way
+  serial : Way
 
 -- a half byte in bits 7..4, above four bits that do not count
 abbrev pub above : ℕ → ℕ → ℕ
 above half low = raised half + bits3-0 low
-
--- over half bytes: upper half first; `low` has what stands in bits 3..0 of each transfer in turn
-unfoldable pub asHalves : {E : Type 0} → (ℕ → ℕ) → Items E → List (Turn Transfer E)
-asHalves low [] = []
-asHalves low (comes w ∷ items) =
-    comes (writing (w .register) (above (bits7-4 (w .byte)) (low 0)))
-    ∷ comes (writing (w .register) (above (bits3-0 (w .byte)) (low 1)))
-    ∷ asHalves (λ k. low (k + 2)) items
-asHalves low (happens e ∷ items) = happens e ∷ asHalves low items
 
 -- the bits of a byte, highest first
 abbrev pub highestFirst : ℕ → List Bool
@@ -48,13 +58,46 @@ highestFirst b = bit 7 b ∷ bit 6 b ∷ bit 5 b ∷ bit 4 b ∷ bit 3 b ∷ bit
 
 unfoldable pub bitsOf : List ℕ → List Bool
 bitsOf [] = []
-bitsOf (b ∷ bytes) = highestFirst b ++ bitsOf bytes
+bitsOf (b ∷ more) = highestFirst b ++ bitsOf more
 
--- over serial: the bits of the sender's three bytes for each write
-unfoldable pub asBits : {E : Type 0} → Items E → List (Turn Bool E)
-asBits [] = []
-asBits (comes w ∷ items) = map comes (bitsOf (threeBytes (w .register) (w .byte))) ++ asBits items
-asBits (happens e ∷ items) = happens e ∷ asBits items
+-- a write on the wires: one transfer of its byte; two, upper half first; or the 24 bits of the sender's three bytes
+abbrev pub eventsOf : Way → WholeWrite → List Event
+eventsOf bytes w = Transfer (writing (w .register) (w .byte)) ∷ []
+eventsOf (halves low) w =
+    Transfer (writing (w .register) (above (bits7-4 (w .byte)) (low 0)))
+    ∷ Transfer (writing (w .register) (above (bits3-0 (w .byte)) (low 1)))
+    ∷ []
+eventsOf serial w = map Bit (bitsOf (threeBytes (w .register) (w .byte)))
+
+-- the way as it goes on after a write: the next half bytes have the next bits 3..0
+abbrev pub onward : Way → Way
+onward bytes = bytes
+onward (halves low) = halves (λ k. low (k + 2))
+onward serial = serial
+
+-- a list of items on the wires
+unfoldable pub wires : Way → List Item → List Event
+wires way [] = []
+wires way (write w ∷ items) = eventsOf way w ++ wires (onward way) items
+wires way (beside x ∷ items) = x .event ∷ wires way items
+
+-- the link of a way, idle
+abbrev pub idleOn : Way → Link
+idleOn bytes = idle true
+idleOn (halves low) = idle true
+idleOn serial = idle false
+
+-- a link with nothing half received: no half byte open; outside a header with no run of ones
+abbrev pub resting : Way → Sync → Link
+resting bytes sync = Parallel Empty
+resting (halves low) sync = Parallel Empty
+resting serial sync = Serial (Outside 0 sync)
+
+-- after whole writes the receiver is in the body under the last one's header, with no bit seen
+unfoldable pub syncAfter : Sync → List Item → Sync
+syncAfter sync [] = sync
+syncAfter sync (write w ∷ items) = syncAfter (Body (w .register) 0 0) items
+syncAfter sync (beside x ∷ items) = syncAfter sync items
 
 -- two bytes to a register are equal, or function sets, 20h..3Fh, that differ at most in bit 4
 pub data SameButBit4 : Bool → ℕ → ℕ → Type 0 where
@@ -63,9 +106,9 @@ pub data SameButBit4 : Bool → ℕ → ℕ → Type 0 where
       0x20 ≤ b → b < 0x40 → 0x20 ≤ c → c < 0x40 → bits3-0 b ≡ bits3-0 c → SameButBit4 false b c
 
 -- two lists are equal except bit 4 of function sets
-pub data Alike {E : Type 0} : Items E → Items E → Type 0 where
+pub data Alike : List Item → List Item → Type 0 where
   none : Alike [] []
-  writes : {w v : WholeWrite} {ws vs : Items E} →
+  writes : {w v : WholeWrite} {ws vs : List Item} →
       w .register ≡ v .register → SameButBit4 (w .register) (w .byte) (v .byte) →
-      Alike ws vs → Alike (comes w ∷ ws) (comes v ∷ vs)
-  events : {e : E} {ws vs : Items E} → Alike ws vs → Alike (happens e ∷ ws) (happens e ∷ vs)
+      Alike ws vs → Alike (write w ∷ ws) (write v ∷ vs)
+  events : {x : Beside} {ws vs : List Item} → Alike ws vs → Alike (beside x ∷ ws) (beside x ∷ vs)

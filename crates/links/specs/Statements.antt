@@ -1,25 +1,28 @@
 -- Document 01, "Links": what holds of the three links and the sender, each statement with what it means on the wires.
--- Each is proved in proofs/, under its own name in small letters (`SentIsReceived` as `sent-is-received`). A controller is
--- anything that `Controller` describes: its state may hold a frame, counts or time, and no statement looks into it.
+-- Each is proved in proofs/, under its own name in small letters (`ItemsAct` as `items-act`). A controller is
+-- anything that `Controller` describes: its state may hold a frame, counts or time, and no statement looks into it. The panel is one
+-- (crate `sequences`, `board`).
 use Prim.Native.Nat.{ℕ, _≤_, _<_}
 use mathlib.Core.Path.{_≡_}
-use mathlib.Core.Bool.{Bool}
+use mathlib.Core.Bool.{Bool, true, false}
 use mathlib.Core.List.{List, [], _∷_, _++_}
 use lib.ListN.{length, take, drop, replicate}
 use Rattle.base.specs.Bits.{bits3-0}
 use Rattle.links.specs.declared.Pairing.the-variants.{Empty, Upper}
-use Rattle.links.specs.declared.Half.the-variants.{Kept, Acts}
+use Rattle.events.specs.declared.Deed.the-variants.{Whole}
+use Rattle.links.specs.declared.Link.the-variants.{Parallel}
 use Rattle.links.specs.declared.Sync.{Sync}
 use Rattle.links.specs.declared.Sync.the-variants.{Body}
 use Rattle.links.specs.declared.Receiver.{Receiver}
 use Rattle.links.specs.declared.Receiver.the-variants.{Outside}
 use Rattle.links.specs.declared.Received.{Received}
 use Rattle.links.specs.declared.Received.the-variants.{Nothing, Byte}
-use Rattle.links.specs.Halves.{bits7-4, joined, writing, reading, paired}
+use Rattle.links.specs.Halves.{bits7-4, joined, writing, reading, kept, acts, paired}
 use Rattle.links.specs.Serial.{listened, bytesIn}
 use Rattle.links.specs.Sender.{threeBytes, sent}
-use Rattle.links.specs.Items.{Items, above, bitsOf, SameButBit4, Alike}
-use Rattle.links.specs.Connector.{Controller, act, Replied, byteAt, halfAt, carried, allCarried, does, Way, serial, over, KeepsDl}
+use Rattle.links.specs.Taken.{byWidth, transferTaken, deedOf}
+use Rattle.links.specs.Items.{Beside, Item, Way, above, bitsOf, wires, syncAfter, SameButBit4, Alike}
+use Rattle.links.specs.Connector.{Controller, Outcome, comes, rests, carriedAt, takenAt, runs, act, allCarried, does, KeepsDl, Idles}
 
 -- 0. What `send` leaves at the front of a buffer with room are the three bytes whose bits are the write on the serial wire;
 -- the rest of the buffer is as it was.
@@ -29,46 +32,43 @@ SendLeavesThree =
     (take 3 (sent register byte buffer .buffer) ≡ threeBytes register byte)
     × (drop 3 (sent register byte buffer .buffer) ≡ drop 3 buffer)
 
-module _ {S E : Type 0} (on : Controller S E) where
-  -- 1. Any number of such writes, heard bit by bit from an idle serial link with chip select high, act exactly as the bytes
-  -- given, in order, with any other events between whole writes.
-  abbrev pub SentIsReceived : Type 0
-  SentIsReceived = (s : S) (items : Items E) → over on serial s items ≡ does on s items
-
-  -- The same of every way: over bytes, over half bytes with anything in bits 3..0, over serial. A parallel link takes its
-  -- width from DL, so there the items must leave DL as that link has it.
+module _ {S : Type 0} (on : Controller S) where
+  -- 1. Any number of such writes, heard bit by bit on a serial link with nothing half received and chip select high, act exactly as the
+  -- bytes given, in order, with any events beside the wires between whole writes; no event is refused, and nothing is half received
+  -- then. The same of every way: over bytes, over half bytes with anything in bits 3..0, over serial. A parallel link takes its width
+  -- from DL, so there the items must leave DL as that link has it.
   abbrev pub ItemsAct : Type 0
-  ItemsAct = (way : Way) (s : S) (items : Items E) → KeepsDl on way s items → over on way s items ≡ does on s items
+  ItemsAct =
+      Idles on → (way : Way) (s : S) (sync : Sync) (items : List Item) → KeepsDl on way s items →
+      runs on (rests way s sync) (wires way items) ≡ comes (rests way (does on s items) (syncAfter sync items))
 
   module _ (_≈_ : S → S → Type 0) where
     infix 4 _≈_
-    -- `≈` stands for "equal apart from DL": writes that are equal except bit 4 of function sets keep it, and events do
+    -- `≈` stands for "equal apart from DL": writes that are equal except bit 4 of function sets keep it, and events beside the wires do
     pub record Respected : Type 0 where
       pub writes : (s t : S) (register : Bool) (b c : ℕ) →
           b < 256 → c < 256 → s ≈ t → SameButBit4 register b c → act on s register b ≈ act on t register c
-      pub events : (s t : S) (e : E) → s ≈ t → on .happen s e ≈ on .happen t e
+      pub events : (s t : S) (x : Beside) → s ≈ t → on .perform s (x .deed) .state ≈ on .perform t (x .deed) .state
 
-    -- 2. One list reaches one controller state over all links. Two lists that are equal except bit 4 of function sets, each
-    -- over a way whose DL it keeps, begun with links idle in states that are equal apart from DL, end in such states.
-    abbrev pub LinksAgree : Type 0
-    LinksAgree =
-        Respected → (way other : Way) (s t : S) (items others : Items E) →
-        s ≈ t → Alike items others → KeepsDl on way s items → KeepsDl on other t others →
-        over on way s items ≈ over on other t others
+    -- 2. One list reaches one controller state over all links: two lists that are equal except bit 4 of function sets, done in states
+    -- that are equal apart from DL, end in such states; and by 1 each does the same over any way whose DL it keeps.
+    abbrev pub ListsAgree : Type 0
+    ListsAgree =
+        Respected → (s t : S) (items others : List Item) → s ≈ t → Alike items others → does on s items ≈ does on t others
 
 -- 3. In any sixteen bits, wherever the receiver stands, at most one byte completes.
 abbrev pub AtMostOneByte : Type 0
 AtMostOneByte = (receiver : Receiver) (bits : List Bool) → length bits ≤ 16 → bytesIn (listened receiver bits .brought) ≤ 1
 
-module _ {S E : Type 0} (on : Controller S E) where
+module _ {S : Type 0} (on : Controller S) where
   -- So all that they do to a controller is what one byte does, or nothing: eight bits in one record have one count.
   abbrev pub AtMostOneActs : Type 0
   AtMostOneActs =
-      (receiver : Receiver) (bits : List Bool) → length bits ≤ 16 →
-      (x : Received) × ((s : S) → allCarried on s (listened receiver bits .brought) ≡ carried on s x)
+      Idles on → (receiver : Receiver) (bits : List Bool) → length bits ≤ 16 →
+      (x : Received) × ((s : S) → allCarried on s (listened receiver bits .brought) ≡ on .perform s (deedOf x) .state)
 
 -- the replies and states of a read's two half bytes, beside those of the same read as one byte
-pub record InHalves {S : Type 0} (one first second : Replied S) (later : S) : Type 0 where
+pub record InHalves {S : Type 0} (one first second : Outcome S) (later : S) : Type 0 where
   -- together they hand over the same answer
   pub together : joined (bits7-4 (first .reply)) (bits7-4 (second .reply)) ≡ one .reply
   -- each in bits 7..4, zeros below
@@ -76,24 +76,24 @@ pub record InHalves {S : Type 0} (one first second : Replied S) (later : S) : Ty
   -- the first acts as the whole read does
   pub acts : first .at .state ≡ one .at .state
   -- the second leaves the controller as it stood by then, and nothing open
-  pub leaves : second .at ≡ record { state = later; link = Empty }
+  pub leaves : second .at ≡ record { state = later; link = Parallel Empty }
 
-module _ {S E : Type 0} (on : Controller S E) where
+module _ {S : Type 0} (on : Controller S) where
   -- 4. What a read's two half bytes hand over together is what one byte read answers, whatever happens between them.
   abbrev pub HalvesReadWhole : Type 0
   HalvesReadWhole =
-      (s later : S) (register : Bool) → on .perform s (reading register) .answer < 256 →
-      let one : Replied S = byteAt on (record { state = s; link = Empty }) (reading register) in
-      let first : Replied S = halfAt on (record { state = s; link = Empty }) (reading register) in
-      let second : Replied S = halfAt on (record { state = later; link = first .at .link }) (reading register) in
+      Idles on → (s later : S) (register : Bool) → on .perform s (Whole (reading register)) .answer < 256 →
+      let one : Outcome S = carriedAt on s (byWidth true Empty (reading register)) in
+      let first : Outcome S = carriedAt on s (byWidth false Empty (reading register)) in
+      (second : Outcome S) → takenAt on later (transferTaken false (first .at .link) (reading register)) ≡ comes second →
       InHalves one first second later
 
 -- 5. Of a write's two half bytes the first is only kept, and exactly the second acts, with the whole byte.
 abbrev pub SecondHalfActs : Type 0
 SecondHalfActs =
     (register : Bool) (byte : ℕ) → byte < 256 → (low other : ℕ) →
-    (paired Empty (writing register (above (bits7-4 byte) low)) ≡ Kept (Upper register (bits7-4 byte)))
-    × (paired (Upper register (bits7-4 byte)) (writing register (above (bits3-0 byte) other)) ≡ Acts (writing register byte))
+    (paired Empty (writing register (above (bits7-4 byte) low)) ≡ kept register (bits7-4 byte))
+    × (paired (Upper register (bits7-4 byte)) (writing register (above (bits3-0 byte) other)) ≡ acts (writing register byte))
 
 -- 6. Of a write's 24 serial bits exactly the last completes a byte, the one sent. So it is wherever the receiver stands
 -- outside a header with no run of ones; afterwards it stands so again, with no bit seen.

@@ -1,13 +1,16 @@
 // The parallel link with DL = 0: two half bytes of one kind make a transfer.
-use crate::Half;
+use crate::Carried;
+use events::Deed;
+use crate::Link;
 use crate::Pairing;
-use crate::Transfer;
+use crate::Rest;
+use events::Transfer;
 ghost use mathlib.Core.Path.{_≡_};
-ghost use Rattle.links.specs.Halves.{raised, joined, writing, reading, kept, writeHalf, readHalf, paired};
+ghost use Rattle.links.specs.Halves.{raised, joined, writing, reading, kept, acts, handed, writeHalf, readHalf, paired};
 ghost use Rattle.links.specs.Halves.{firstReply, pairingAfter};
 
 // One half-byte transfer, after what is open. Of a write only bits 7..4 count.
-pub fn pair(pairing: Pairing, transfer: Transfer) -> Half
+pub(crate) fn pair(pairing: Pairing, transfer: Transfer) -> Carried
     ensures { λ r. ⌜ r ≡ paired pairing transfer ⌝ }
 {
     match transfer {
@@ -19,7 +22,7 @@ pub fn pair(pairing: Pairing, transfer: Transfer) -> Half
 }
 
 // A write's half byte: the second if a first of the same kind is open, else a first.
-fn write_half(pairing: Pairing, register: bool, value: u8) -> Half
+fn write_half(pairing: Pairing, register: bool, value: u8) -> Carried
     ensures { λ r. ⌜ r ≡ writeHalf pairing register value ⌝ }
 {
     match pairing {
@@ -29,7 +32,7 @@ fn write_half(pairing: Pairing, register: bool, value: u8) -> Half
             upper,
         } => {
             if was == register {
-                return Half::Acts(writing(register, joined(upper, value / 16)));
+                return acts(writing(register, joined(upper, value / 16)));
             }
             kept(register, value / 16)
         }
@@ -41,35 +44,59 @@ fn write_half(pairing: Pairing, register: bool, value: u8) -> Half
 }
 
 // A read's half byte: the second if the rest of an answer of the same kind is due, else a first.
-fn read_half(pairing: Pairing, register: bool) -> Half
+fn read_half(pairing: Pairing, register: bool) -> Carried
     ensures { λ r. ⌜ r ≡ readHalf pairing register ⌝ }
 {
     match pairing {
-        Pairing::Empty => Half::Acts(reading(register)),
+        Pairing::Empty => acts(reading(register)),
         Pairing::Upper {
             register: _,
             upper: _,
-        } => Half::Acts(reading(register)),
+        } => acts(reading(register)),
         Pairing::Lower {
             register: was,
             lower,
         } => {
             if was == register {
-                return Half::Answers(raised(lower));
+                return handed(raised(lower));
             }
-            Half::Acts(reading(register))
+            acts(reading(register))
         }
     }
 }
 
-fn kept(register: bool, upper: u8) -> Half
+// A write's first half: nothing acts, and its upper half is open.
+fn kept(register: bool, upper: u8) -> Carried
     ensures { λ r. ⌜ r ≡ kept register upper ⌝ }
 {
-    Half::Kept(Pairing::Upper { register, upper })
+    Carried {
+        deed: Deed::Nothing,
+        rest: Rest::Stays(Link::Parallel(Pairing::Upper { register, upper })),
+    }
+}
+
+// A write's second half, here with the whole byte, or a read's first half.
+fn acts(transfer: Transfer) -> Carried
+    ensures { λ r. ⌜ r ≡ acts transfer ⌝ }
+{
+    Carried {
+        deed: Deed::Whole(transfer),
+        rest: Rest::Halved(transfer),
+    }
+}
+
+// A read's second half.
+fn handed(reply: u8) -> Carried
+    ensures { λ r. ⌜ r ≡ handed reply ⌝ }
+{
+    Carried {
+        deed: Deed::Nothing,
+        rest: Rest::Handed(reply),
+    }
 }
 
 // The transfer that writes a byte to a register.
-pub fn writing(register: bool, byte: u8) -> Transfer
+pub(crate) fn writing(register: bool, byte: u8) -> Transfer
     ensures { λ r. ⌜ r ≡ writing register byte ⌝ }
 {
     if register {
@@ -88,14 +115,14 @@ fn reading(register: bool) -> Transfer
 }
 
 // The reply to a half byte that acted, where the transfer answered this byte. A write answers 0.
-pub fn first_reply(answer: u8) -> u8
+pub(crate) fn first_reply(answer: u8) -> u8
     ensures { λ r. ⌜ r ≡ firstReply answer ⌝ }
 {
     raised(answer / 16)
 }
 
 // What a half byte that acted leaves open, where the transfer answered this byte.
-pub fn pairing_after(acted: Transfer, answer: u8) -> Pairing
+pub(crate) fn pairing_after(acted: Transfer, answer: u8) -> Pairing
     ensures { λ r. ⌜ r ≡ pairingAfter acted answer ⌝ }
 {
     match acted {

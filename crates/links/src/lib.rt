@@ -4,25 +4,45 @@
 mod halves;
 mod sender;
 mod serial;
+mod taking;
 
-pub use halves::first_reply;
-pub use halves::pair;
-pub use halves::pairing_after;
-pub use halves::writing;
 pub use sender::send;
 pub use serial::hear;
 pub use serial::idle_receiver;
 pub use serial::select_low;
+pub use taking::reply;
+pub use taking::take;
+use events::Deed;
+use events::Transfer;
 ghost use mathlib.Core.Path.{_≡_};
 ghost use Rattle.links.specs.Idle.{idle};
 
-// A transfer on the parallel connector, a write with what it puts on the wires. A register of `false` means instructions
-// and status, `true` means data.
-pub enum Transfer {
-    Instruct(u8),
-    Write(u8),
-    Status,
-    Read,
+// How the controller's answer goes back.
+pub enum Rest {
+    // It is the reply, and the link is this.
+    Stays(Link),
+    // A half byte acted: the reply has the answer's upper half, and of a read the lower half is open.
+    Halved(Transfer),
+    // A read's second half: this is the reply, and nothing is open.
+    Handed(u8),
+}
+
+// An event of this link: what of it reaches the controller, and how the answer goes back.
+pub struct Carried {
+    pub deed: Deed,
+    pub rest: Rest,
+}
+
+// What a link makes of an event.
+pub enum Taken {
+    OtherLink,
+    Carries(Carried),
+}
+
+// What a link answers, and what it is then.
+pub struct Replied {
+    pub link: Link,
+    pub reply: u8,
 }
 
 // How the controller is reached, by the interface pin, and what stands half received there.
@@ -36,16 +56,6 @@ pub enum Pairing {
     Empty,
     Upper { register: bool, upper: u8 },
     Lower { register: bool, lower: u8 },
-}
-
-// What a half-byte transfer comes to.
-pub enum Half {
-    // A write's first half: nothing acts, and this is open now.
-    Kept(Pairing),
-    // A write's second half, here with the whole byte, or a read's first half.
-    Acts(Transfer),
-    // A read's second half: this is the reply, and nothing is open.
-    Answers(u8),
 }
 
 // How much of a header has come.

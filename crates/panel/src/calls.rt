@@ -1,17 +1,18 @@
-// The calls by value: the panel goes in, and the next one is handed on. Each takes the memories into locals once, lends them to the
-// call of the same name in `lent`, and puts the state together once.
+// The calls by value: the panel goes in, and the next one is handed on.
 use crate::Made;
 use crate::Outcome;
 use crate::Panel;
 use controller::Control;
 use lent::Answer;
-use lent::Pin;
-use links::Transfer;
+use events::Event;
+use events::Pin;
+use events::Transfer;
 ghost use mathlib.Core.Path.{_≡_};
 ghost use Rattle.picture.specs.Picture.{seen};
 ghost use Rattle.picture.specs.Refusals.{leaves, drawn};
 ghost use Rattle.lent.specs.State.{freshState, Valid};
-ghost use Rattle.lent.specs.Calls.{transfer, bit, selectLow, reset, called};
+ghost use Rattle.events.specs.declared.Event.the-variants as event;
+ghost use Rattle.lent.specs.Calls.{called};
 ghost use Rattle.panel.specs.Handed.{stateOf, memoriesOf, handed, together};
 
 // The memories as a call left them, and its answer, put together.
@@ -49,6 +50,39 @@ impl Panel {
         }
     }
 
+    // An event comes to the panel: the memories are taken into locals once and lent, and the state is put together once.
+    pub fn call(
+        self,
+        event: Event,
+        frame: &mut [u8],
+        half: &[u8],
+        full: &[u8],
+        phase: bool,
+    ) -> Outcome
+        requires { ⌜ Valid (stateOf self) ⌝ }
+        ensures { λ r. ⌜ handed r (now (frame .exit)) ≡ called (seen half full phase) (stateOf self) (now (frame .entry)) event ⌝ }
+        ensures valid { λ r. ⌜ Valid (stateOf (r .panel)) ⌝ }
+    {
+        let mut text = self.text;
+        let mut glyph = self.glyph;
+        let mut graphic = self.graphic;
+        let now = self.control;
+        let at = self.link;
+        let answer = lent::call(
+            &mut text,
+            &mut glyph,
+            &mut graphic,
+            now,
+            at,
+            event,
+            frame,
+            half,
+            full,
+            phase,
+        );
+        handed_on(text, glyph, graphic, answer)
+    }
+
     // A transfer of the parallel link.
     pub fn transfer(
         self,
@@ -59,27 +93,10 @@ impl Panel {
         phase: bool,
     ) -> Outcome
         requires { ⌜ Valid (stateOf self) ⌝ }
-        ensures { λ r. ⌜ handed r (now (frame .exit)) ≡ called (seen half full phase) (stateOf self) (now (frame .entry)) (transfer given) ⌝ }
+        ensures { λ r. ⌜ handed r (now (frame .exit)) ≡ called (seen half full phase) (stateOf self) (now (frame .entry)) (event.Transfer given) ⌝ }
         ensures valid { λ r. ⌜ Valid (stateOf (r .panel)) ⌝ }
     {
-        let mut text = self.text;
-        let mut glyph = self.glyph;
-        let mut graphic = self.graphic;
-        let now = self.control;
-        let at = self.link;
-        let answer = lent::transfer(
-            &mut text,
-            &mut glyph,
-            &mut graphic,
-            now,
-            at,
-            given,
-            frame,
-            half,
-            full,
-            phase,
-        );
-        handed_on(text, glyph, graphic, answer)
+        self.call(Event::Transfer(given), frame, half, full, phase)
     }
 
     // One bit of the serial link, with chip select high.
@@ -92,68 +109,28 @@ impl Panel {
         phase: bool,
     ) -> Outcome
         requires { ⌜ Valid (stateOf self) ⌝ }
-        ensures { λ r. ⌜ handed r (now (frame .exit)) ≡ called (seen half full phase) (stateOf self) (now (frame .entry)) (bit given) ⌝ }
+        ensures { λ r. ⌜ handed r (now (frame .exit)) ≡ called (seen half full phase) (stateOf self) (now (frame .entry)) (event.Bit given) ⌝ }
         ensures valid { λ r. ⌜ Valid (stateOf (r .panel)) ⌝ }
     {
-        let mut text = self.text;
-        let mut glyph = self.glyph;
-        let mut graphic = self.graphic;
-        let now = self.control;
-        let at = self.link;
-        let answer = lent::bit(
-            &mut text,
-            &mut glyph,
-            &mut graphic,
-            now,
-            at,
-            given,
-            frame,
-            half,
-            full,
-            phase,
-        );
-        handed_on(text, glyph, graphic, answer)
+        self.call(Event::Bit(given), frame, half, full, phase)
     }
 
     // Chip select low on the serial link.
     pub fn select_low(self, frame: &mut [u8], half: &[u8], full: &[u8], phase: bool) -> Outcome
         requires { ⌜ Valid (stateOf self) ⌝ }
-        ensures { λ r. ⌜ handed r (now (frame .exit)) ≡ called (seen half full phase) (stateOf self) (now (frame .entry)) selectLow ⌝ }
+        ensures { λ r. ⌜ handed r (now (frame .exit)) ≡ called (seen half full phase) (stateOf self) (now (frame .entry)) event.SelectLow ⌝ }
         ensures valid { λ r. ⌜ Valid (stateOf (r .panel)) ⌝ }
     {
-        let text = self.text;
-        let glyph = self.glyph;
-        let graphic = self.graphic;
-        let now = self.control;
-        let at = self.link;
-        let answer = lent::select_low(&text, &glyph, &graphic, now, at, frame, half, full, phase);
-        handed_on(text, glyph, graphic, answer)
+        self.call(Event::SelectLow, frame, half, full, phase)
     }
 
     // Reset with the interface pin, on either link.
     pub fn reset(self, pin: Pin, frame: &mut [u8], half: &[u8], full: &[u8], phase: bool) -> Outcome
         requires { ⌜ Valid (stateOf self) ⌝ }
-        ensures { λ r. ⌜ handed r (now (frame .exit)) ≡ called (seen half full phase) (stateOf self) (now (frame .entry)) (reset (pin .parallel)) ⌝ }
+        ensures { λ r. ⌜ handed r (now (frame .exit)) ≡ called (seen half full phase) (stateOf self) (now (frame .entry)) (event.Reset pin) ⌝ }
         ensures valid { λ r. ⌜ Valid (stateOf (r .panel)) ⌝ }
     {
-        let mut text = self.text;
-        let mut glyph = self.glyph;
-        let mut graphic = self.graphic;
-        let now = self.control;
-        let at = self.link;
-        let answer = lent::reset(
-            &mut text,
-            &mut glyph,
-            &mut graphic,
-            now,
-            at,
-            pin,
-            frame,
-            half,
-            full,
-            phase,
-        );
-        handed_on(text, glyph, graphic, answer)
+        self.call(Event::Reset(pin), frame, half, full, phase)
     }
 
     // The whole picture, drawn afresh into the frame; answers the refusal number.

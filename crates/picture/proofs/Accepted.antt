@@ -11,7 +11,7 @@ use Rattle.base.proofs.Choice.{either-told}
 use Rattle.base.proofs.Tests.{or-neither}
 use Rattle.controller.specs.declared.Control.{Control}
 use Rattle.controller.specs.Memories.{Memories}
-use Rattle.picture.specs.Picture.{Seen, picture}
+use Rattle.picture.specs.Picture.{Seen, pictured}
 use Rattle.picture.specs.Refusals.{refusalOf, leaves, drawn}
 
 pub record Accepted (f h n : ℕ) : Type 0 where
@@ -35,7 +35,7 @@ accepted frame half full =
     })))
 
 module _ (e : Seen) (m : Memories) (c : Control) (frame : List ℕ) where
-  pub draws : refusalOf (length frame) (length (e .half)) (length (e .full)) ≡ 0 → drawn e m c frame ≡ leaves 0 (picture e m c)
+  pub draws : refusalOf (length frame) (length (e .half)) (length (e .full)) ≡ 0 → drawn e m c frame ≡ leaves 0 (pictured e m c)
   unfolding drawn
   draws h = rw (eq-eqb (refusalOf (length frame) (length (e .half)) (length (e .full))) 0 h)
 

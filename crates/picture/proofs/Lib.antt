@@ -5,3 +5,4 @@ pub mod CellRows
 pub mod Accepted
 pub mod Masks
 pub mod Commute
+pub mod Laid

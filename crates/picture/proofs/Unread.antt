@@ -13,7 +13,7 @@ use Rattle.controller.specs.Glass.{shownRow, shownWord, wordImage}
 use Rattle.controller.specs.Named.{showsGlyph, showsGraphic}
 use Rattle.controller.proofs.Halves.{half-le}
 use Rattle.glyph.proofs.Unread.{glyph-unread}
-use Rattle.picture.specs.Picture.{Seen, right, wordContent, cellByte, graphicByte}
+use Rattle.picture.specs.Picture.{Fonts, right, wordContent, cellByte, graphicByte}
 
 pub half-right : (column : ℕ) → half (right column) ≡ column % 2
 half-right column = by (right column) refl
@@ -26,7 +26,7 @@ half-right column = by (right column) refl
 pub same-place : (p q : ℕ) (s t : Bool) → wordPlace p s ≡ wordPlace q t → (p ≡ q) × (half s ≡ half t)
 same-place p q s t e = let a = half-le s in let b = half-le t in (omega arith, omega arith)
 
-module _ (e : Seen) (m : Memories) (v : View) (row column : ℕ) where
+module _ (e : Fonts) (m : Memories) (v : View) (row column : ℕ) where
   pub text-unread : (word : ℕ) (low : Bool) (b : ℕ) → shownWord v row (column / 2) ≢ word
       → cellByte e (memories (set (m .text) (wordPlace word low) b) (m .glyph) (m .graphic)) v row column ≡ cellByte e m v row column
   unfolding cellByte wordContent

@@ -9,27 +9,53 @@ use lib.Bits.{bitXor}
 use denote.Ref.{now}
 use Rattle.base.specs.Choice.{if_then_else_}
 use Rattle.base.specs.Lists.{upto}
-use Rattle.controller.specs.declared.Place.{Place}
 use Rattle.controller.specs.declared.View.{View}
+use Rattle.controller.specs.declared.Cell.{Cell}
+use Rattle.controller.specs.declared.Cell.the-variants.{Nowhere, Word}
 use Rattle.controller.specs.declared.Control.{Control}
 use Rattle.controller.specs.Memories.{Memories, Lent, wordPlace, graphicPlace}
-use Rattle.controller.specs.Data.{isText}
+use Rattle.controller.specs.Named.{counterCell}
 use Rattle.controller.specs.Glass.{shownRow, shownWord}
 use Rattle.glyph.specs.declared.Content.{Content}
 use Rattle.glyph.specs.declared.Pair.{Pair}
 use Rattle.glyph.specs.Lookup.{contentOf}
 use Rattle.glyph.specs.Dots.{dotsOf}
 use Rattle.picture.specs.declared.Effects.{Effects}
+use Rattle.picture.specs.declared.Look.{Look}
 
--- what the picture is seen with: the lent fonts and the blink phase
+-- the lent fonts
+pub record Fonts : Type 0 where
+  pub half : List ℕ
+  pub full : List ℕ
+
+-- the same, as a contract names what it was lent
+abbrev pub fonts : Lent → Lent → Fonts
+fonts half full = record { half = now (half .entry); full = now (full .entry) }
+
+-- what a call is seen with: the lent fonts and the blink phase
 pub record Seen : Type 0 where
   pub half : List ℕ
   pub full : List ℕ
   pub phase : Bool
 
--- the same, as a contract names what it was lent
 abbrev pub seen : Lent → Lent → Bool → Seen
 seen half full phase = record { half = now (half .entry); full = now (full .entry); phase = phase }
+
+abbrev pub fontsOf : Seen → Fonts
+fontsOf e = record { half = e .half; full = e .full }
+
+-- what the picture looks at beside the memories: the view; the counter's cell, if target is text, with its marks, the cursor and blink with
+-- phase 1; the graphic if G; dark if display 0 or standby
+abbrev pub lookOf : Bool → Control → Look
+lookOf phase c =
+    record {
+      view = c .view;
+      counter = counterCell (c .place);
+      cursor = c .shown .cursor;
+      blink = c .shown .blink && phase;
+      graphic = c .function .g;
+      dark = not (c .shown .display) || c .standby;
+    }
 
 -- a column is the left byte of its cell or the right one
 abbrev pub right : ℕ → Bool
@@ -40,7 +66,7 @@ unfoldable pub wordContent : ℕ → List ℕ → ℕ → Content
 wordContent size text word = contentOf (getD text (wordPlace word false) 0) (getD text (wordPlace word true) 0) size
 
 -- cell k shows its text word, glyph row s mod 16
-unfoldable pub cellByte : Seen → Memories → View → ℕ → ℕ → ℕ
+unfoldable pub cellByte : Fonts → Memories → View → ℕ → ℕ → ℕ
 cellByte e m v row column =
     dotsOf (e .half) (e .full) (m .glyph) (wordContent (length (e .full)) (m .text) (shownWord v row (column / 2)))
     (shownRow v row % 16) (right column)
@@ -50,24 +76,25 @@ unfoldable pub graphicByte : Memories → View → ℕ → ℕ → ℕ
 graphicByte m v row column = getD (m .graphic) (graphicPlace (shownRow v row) (column / 2) (right column)) 0
 
 -- at the counter's word, if target is text
-unfoldable pub atCounter : Place → ℕ → Bool
-atCounter p word = isText (p .target) && eqb word (p .counter)
+abbrev pub atCounter : Cell → ℕ → Bool
+atCounter Nowhere word = false
+atCounter (Word counter) word = eqb word counter
 
--- on memory row s, in the cell at the counter (here) or in another: cursor sets glyph row 15 and blink with phase 1 inverts the cell;
--- line reverse inverts; graphic if G; dark if display 0 or standby
-unfoldable pub effectsOf : Bool → Control → ℕ → Bool → Effects
-effectsOf phase c s here =
+-- on memory row s, in the cell at the counter (here) or in another: cursor sets glyph row 15 and blink inverts the cell; line reverse
+-- inverts; then graphic and dark
+unfoldable pub effectsOf : Look → ℕ → Bool → Effects
+effectsOf look s here =
     record {
-      cursor = here && (c .shown .cursor && eqb (s % 16) 15);
-      blink = here && (c .shown .blink && phase);
-      reverse = getD (c .view .reversed) (s / 16) false;
-      graphic = c .function .g;
-      dark = not (c .shown .display) || c .standby;
+      cursor = here && (look .cursor && eqb (s % 16) 15);
+      blink = here && look .blink;
+      reverse = getD (look .view .reversed) (s / 16) false;
+      graphic = look .graphic;
+      dark = look .dark;
     }
 
-abbrev pub effectsAt : Bool → Control → ℕ → ℕ → Effects
-effectsAt phase c row cell =
-    effectsOf phase c (shownRow (c .view) row) (atCounter (c .place) (shownWord (c .view) row cell))
+abbrev pub effectsAt : Look → ℕ → ℕ → Effects
+effectsAt look row cell =
+    effectsOf look (shownRow (look .view) row) (atCounter (look .counter) (shownWord (look .view) row cell))
 
 -- sets
 abbrev pub filled : Bool → ℕ → ℕ
@@ -91,21 +118,25 @@ shaded e cell dots =
     darkened (e .dark) (overlaid (e .graphic) dots (inverted (e .reverse) (inverted (e .blink) (filled (e .cursor) cell))))
 
 -- byte `column` of row `row` of the glass
-unfoldable pub byteAt : Seen → Memories → Control → ℕ → ℕ → ℕ
-byteAt e m c row column =
-    shaded (effectsAt (e .phase) c row (column / 2)) (cellByte e m (c .view) row column) (graphicByte m (c .view) row column)
+unfoldable pub byteAt : Fonts → Memories → Look → ℕ → ℕ → ℕ
+byteAt e m look row column =
+    shaded (effectsAt look row (column / 2)) (cellByte e m (look .view) row column) (graphicByte m (look .view) row column)
 
 -- a frame's place i is row i / 32, column i mod 32 of the glass
 abbrev pub atPlace : {A : Type 0} → (ℕ → ℕ → A) → ℕ → A
 atPlace f i = f (i / 32) (i % 32)
 
 -- 32 rows of 32 bytes
-unfoldable pub picture : Seen → Memories → Control → List ℕ
-picture e m c = upto 1024 (atPlace (byteAt e m c))
+unfoldable pub picture : Fonts → Memories → Look → List ℕ
+picture e m look = upto 1024 (atPlace (byteAt e m look))
+
+-- the picture of a state, as a call sees it
+abbrev pub pictured : Seen → Memories → Control → List ℕ
+pictured e m c = picture (fontsOf e) m (lookOf (e .phase) c)
 
 -- for the painter of a cell's row: the row's two bytes
-abbrev pub cellPair : Seen → Memories → Control → ℕ → ℕ → Pair
-cellPair e m c row cell = record { left = byteAt e m c row (2 * cell); right = byteAt e m c row (2 * cell + 1) }
+abbrev pub cellPair : Fonts → Memories → Look → ℕ → ℕ → Pair
+cellPair e m look row cell = record { left = byteAt e m look row (2 * cell); right = byteAt e m look row (2 * cell + 1) }
 
 -- and which bytes of the glass they are
 abbrev pub inCellRow : ℕ → ℕ → ℕ → ℕ → Bool

@@ -7,7 +7,7 @@ use lib.Dec.{eqb, ltb}
 use Rattle.base.specs.Choice.{if_then_else_}
 use Rattle.controller.specs.declared.Control.{Control}
 use Rattle.controller.specs.Memories.{Memories}
-use Rattle.picture.specs.Picture.{Seen, picture}
+use Rattle.picture.specs.Picture.{Seen, pictured}
 
 -- 1: frame not 1,024 bytes; 2: half font not 2,048 bytes; 3: full font not a multiple of 32, or over 267,264; 0: accepted
 unfoldable pub refusalOf : ℕ → ℕ → ℕ → ℕ
@@ -27,7 +27,7 @@ leaves number frame = record { number = number; frame = frame }
 
 -- a refusal returns its number and changes no buffer; an accepted call answers 0, and the frame is the picture
 abbrev pub drawnBy : ℕ → Seen → Memories → Control → List ℕ → Drawn
-drawnBy number e m c frame = if eqb number 0 then leaves 0 (picture e m c) else leaves number frame
+drawnBy number e m c frame = if eqb number 0 then leaves 0 (pictured e m c) else leaves number frame
 
 unfoldable pub drawn : Seen → Memories → Control → List ℕ → Drawn
 drawn e m c frame = drawnBy (refusalOf (length frame) (length (e .half)) (length (e .full))) e m c frame

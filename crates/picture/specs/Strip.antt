@@ -6,37 +6,38 @@ use mathlib.Core.List.{List}
 use lib.ListN.{length, getD, set}
 use lib.Dec.{eqb}
 use Rattle.base.specs.Choice.{if_then_else_}
-use Rattle.controller.specs.declared.Place.{Place}
-use Rattle.controller.specs.declared.Control.{Control}
+use Rattle.controller.specs.declared.Cell.{Cell}
+use Rattle.controller.specs.declared.Cell.the-variants.{Nowhere, Word}
 use Rattle.controller.specs.Memories.{Memories, half}
-use Rattle.controller.specs.Data.{isText}
 use Rattle.controller.specs.Glass.{shownRow}
 use Rattle.glyph.specs.Dots.{dotsOf, both}
 use Rattle.glyph.specs.declared.Pair.{Pair}
 use Rattle.picture.specs.declared.Effects.{Effects}
+use Rattle.picture.specs.declared.Look.{Look}
 use Rattle.picture.specs.declared.Strip.{Strip}
 use Rattle.picture.specs.Picture.{wordContent, effectsOf, shaded}
 
 -- the counter's word, or 64, which no cell shows
-abbrev pub counterWord : Place → ℕ
-counterWord p = if isText (p .target) then p .counter else 64
+abbrev pub counterWord : Cell → ℕ
+counterWord Nowhere = 64
+counterWord (Word counter) = counter
 
 -- on memory row s
-abbrev pub stripOn : Bool → Control → ℕ → Strip
-stripOn phase c s =
+abbrev pub stripOn : Look → ℕ → Strip
+stripOn look s =
     record {
       first = 16 * (s / 16);
-      shift = c .view .shift;
+      shift = look .view .shift;
       y = s % 16;
       start = 32 * s;
-      counter = counterWord (c .place);
-      marked = effectsOf phase c s true;
-      plain = effectsOf phase c s false;
+      counter = counterWord (look .counter);
+      marked = effectsOf look s true;
+      plain = effectsOf look s false;
     }
 
 -- at row `row` of the glass
-unfoldable pub stripAt : Bool → Control → ℕ → Strip
-stripAt phase c row = stripOn phase c (shownRow (c .view) row)
+unfoldable pub stripAt : Look → ℕ → Strip
+stripAt look row = stripOn look (shownRow (look .view) row)
 
 -- the text word of a cell
 abbrev pub stripWord : Strip → ℕ → ℕ

@@ -1,6 +1,7 @@
 // The whole picture, drawn afresh.
-use crate::paint::paint_whole;
+use crate::looks::look;
 use crate::refusals::refusal;
+use crate::whole::paint_whole;
 use controller::Control;
 ghost use mathlib.Core.Path.{_≡_};
 ghost use Rattle.controller.specs.Memories.{before};
@@ -24,6 +25,7 @@ pub fn draw(
     if number != 0 {
         return number;
     }
-    paint_whole(text, glyph, graphic, control, frame, half, full, phase);
+    let look = look(control, phase);
+    paint_whole(text, glyph, graphic, look, frame, half, full);
     0
 }

@@ -1,44 +1,42 @@
 // One row of a cell: its two bytes.
 use crate::Effects;
+use crate::Look;
 use crate::Strip;
 use crate::shade::effects;
 use crate::shade::shade;
-use controller::Control;
-use controller::Place;
+use controller::Cell;
 use glyph::Pair;
 use glyph::dots::row_dots;
 use glyph::lookup::content;
-use table::Target;
 ghost use mathlib.Core.Path.{_≡_};
 ghost use Prim.Native.Nat.{_<_};
 ghost use lib.ListN.{length};
 ghost use Rattle.controller.specs.Memories.{before};
 ghost use Rattle.picture.specs.Strip.{counterWord, stripAt, stripEffects, stripPair, OnGlass};
 
-fn counter_word(place: Place) -> usize
-    ensures { λ r. ⌜ r ≡ counterWord place ⌝ }
+// The counter's word, or 64, which no cell shows.
+pub(crate) fn counter_word(cell: Cell) -> usize
+    ensures { λ r. ⌜ r ≡ counterWord cell ⌝ }
 {
-    let target = place.target;
-    match target {
-        Target::Text => place.counter as usize,
-        Target::Glyph => 64,
-        Target::Graphic => 64,
+    match cell {
+        Cell::Nowhere => 64,
+        Cell::Word(word) => word as usize,
     }
 }
 
 // What the cells of row `row` of the glass have in common: found once for all sixteen.
-pub(crate) fn strip(control: Control, row: usize, phase: bool) -> Strip
+pub(crate) fn strip(look: Look, row: usize) -> Strip
     requires { ⌜ row < 32 ⌝ }
-    ensures { λ r. ⌜ r ≡ stripAt phase control row ⌝ }
+    ensures { λ r. ⌜ r ≡ stripAt look row ⌝ }
 {
-    let place = control.place;
-    let s = (row + control.view.scroll as usize) % 64;
-    let counter = counter_word(place);
-    let marked = effects(control, s, true, phase);
-    let plain = effects(control, s, false, phase);
+    let s = (row + look.view.scroll as usize) % 64;
+    let cell = look.counter;
+    let counter = counter_word(cell);
+    let marked = effects(look, s, true);
+    let plain = effects(look, s, false);
     Strip {
         first: 16 * (s / 16),
-        shift: control.view.shift,
+        shift: look.view.shift,
         y: s % 16,
         start: 32 * s,
         counter,

@@ -1,6 +1,6 @@
 // Cursor, blink, line reverse, graphic and display, in document 01's order.
 use crate::Effects;
-use controller::Control;
+use crate::Look;
 ghost use mathlib.Core.Path.{_≡_};
 ghost use mathlib.Core.Bool.{_&&_, _||_, not};
 ghost use Prim.Native.Nat.{_<_};
@@ -8,34 +8,33 @@ ghost use Rattle.base.specs.Choice.{if_then_else_};
 ghost use Rattle.picture.specs.Picture.{filled, inverted, overlaid, effectsOf, shaded};
 
 // Both flags, as a function, so that the caller has no branch to prove.
-fn both(a: bool, b: bool) -> bool
+pub(crate) fn both(a: bool, b: bool) -> bool
     ensures { λ r. ⌜ r ≡ (a && b) ⌝ }
 {
     if a { b } else { false }
 }
 
 // Whether nothing shows.
-fn off_or_standby(display: bool, standby: bool) -> bool
+pub(crate) fn off_or_standby(display: bool, standby: bool) -> bool
     ensures { λ r. ⌜ r ≡ (not display || standby) ⌝ }
 {
     if display { standby } else { true }
 }
 
 // What is done on memory row s to the dots of the cell at the counter (`here`), or of another.
-pub(crate) fn effects(control: Control, s: usize, here: bool, phase: bool) -> Effects
+pub(crate) fn effects(look: Look, s: usize, here: bool) -> Effects
     requires { ⌜ s < 64 ⌝ }
-    ensures { λ r. ⌜ r ≡ effectsOf phase control s here ⌝ }
+    ensures { λ r. ⌜ r ≡ effectsOf look s here ⌝ }
 {
-    let shown = control.shown;
-    let view = control.view;
+    let view = look.view;
     let reversed = view.reversed;
     let line = s / 16;
     Effects {
-        cursor: both(here, both(shown.cursor, s % 16 == 15)),
-        blink: both(here, both(shown.blink, phase)),
+        cursor: both(here, both(look.cursor, s % 16 == 15)),
+        blink: both(here, look.blink),
         reverse: reversed[line],
-        graphic: control.function.g,
-        dark: off_or_standby(shown.display, control.standby),
+        graphic: look.graphic,
+        dark: look.dark,
     }
 }
 
@@ -52,7 +51,7 @@ fn invert(on: bool, byte: u8) -> u8
     byte ^ mask(on)
 }
 
-fn overlay(on: bool, dots: u8, byte: u8) -> u8
+pub(crate) fn overlay(on: bool, dots: u8, byte: u8) -> u8
     ensures { λ r. ⌜ r ≡ overlaid on dots byte ⌝ }
 {
     byte ^ (dots & mask(on))

@@ -11,12 +11,11 @@ use Rattle.base.specs.Painting.{count}
 use Rattle.base.proofs.Counting.{count-cong, count-none, count-all, count-or-le, count-window, count-grid, count-rows}
 use Rattle.base.proofs.Tests.{and-both}
 use Rattle.controller.specs.declared.View.{View}
-use Rattle.controller.specs.declared.Control.{Control}
 use Rattle.controller.specs.declared.Cell.{Cell}
 use Rattle.controller.specs.declared.Cell.the-variants.{Nowhere, Word}
 use Rattle.controller.specs.declared.Region.{Region}
 use Rattle.controller.specs.declared.Region.the-variants.{Nothing, Whole, Cells, GlyphHalf, GraphicHalf}
-use Rattle.controller.specs.Memories.{Memories, half}
+use Rattle.controller.specs.Memories.{half}
 use Rattle.controller.specs.Glass.{shownRow, shownWord, wordImage, isImage}
 use Rattle.controller.specs.Named.{inCell, inSomeCell, showsGlyph, showsGraphic, covers}
 use Rattle.picture.specs.Picture.{atPlace}
@@ -145,10 +144,10 @@ unfolding covers
 count-nothing v text = count-none 1024 (atPlace (covers v text Nothing)) (λ i h. refl)
 
 -- whatever the region
-pub count-most : (m : Memories) (c : Control) (region : Region) → countNamed m c region ≤ mostOf region
+pub count-most : (v : View) (text : List ℕ) (region : Region) → countNamed v text region ≤ mostOf region
 unfolding countNamed named covers
-count-most m c Nothing = at-most (count-nothing (c .view) (m .text))
-count-most m c Whole = at-most (count-whole (c .view) (m .text))
-count-most m c (Cells a b) = count-cells (c .view) (m .text) a b
-count-most m c (GlyphHalf word low) = count-glyph (c .view) (m .text) word low
-count-most m c (GraphicHalf y k low) = count-graphic (c .view) y k low
+count-most v text Nothing = at-most (count-nothing v text)
+count-most v text Whole = at-most (count-whole v text)
+count-most v text (Cells a b) = count-cells v text a b
+count-most v text (GlyphHalf word low) = count-glyph v text word low
+count-most v text (GraphicHalf y k low) = count-graphic v y k low

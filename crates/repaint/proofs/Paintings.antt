@@ -108,6 +108,9 @@ module _ (P : ℕ → Bool) (b : ℕ → ℕ) (f : List ℕ) where
 pub paints-same : (P Q : ℕ → Bool) (b : ℕ → ℕ) (f : List ℕ) → ((i : ℕ) → P i ≡ Q i) → paints P b f ≡ paints Q b f
 paints-same P Q b f e = painting-both (count-cong 1024 P Q (λ i h. e i)) (painted-same P Q b f (λ i h. e i))
 
+pub paints-below : (P Q : ℕ → Bool) (b : ℕ → ℕ) (f : List ℕ) → length f ≡ 1024 → ((i : ℕ) → i < 1024 → P i ≡ Q i) → paints P b f ≡ paints Q b f
+paints-below P Q b f size e = painting-both (count-cong 1024 P Q e) (painted-same P Q b f (λ i h. e i (omega arith)))
+
 -- two sets that have no place in common, one after the other
 pub paints-both :
     (P Q : ℕ → Bool) (b : ℕ → ℕ) (f g h : List ℕ) (n k : ℕ)

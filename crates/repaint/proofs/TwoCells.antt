@@ -8,14 +8,14 @@ use lib.Dec.{eqb}
 use borrow.Author.Tests.{eqb-true, eqb-false}
 use Rattle.base.proofs.Tests.{never, and-both}
 use Rattle.controller.specs.declared.View.{View}
-use Rattle.controller.specs.declared.Control.{Control}
+use Rattle.picture.specs.declared.Look.{Look}
 use Rattle.controller.specs.declared.Cell.{Cell}
 use Rattle.controller.specs.declared.Cell.the-variants.{Nowhere, Word}
 use Rattle.controller.specs.declared.Region.the-variants.{Cells}
 use Rattle.controller.specs.Memories.{Memories}
 use Rattle.controller.specs.Glass.{shownWord}
 use Rattle.controller.specs.Named.{inCell, inSomeCell, covers}
-use Rattle.picture.specs.Picture.{Seen, byteAt, atPlace}
+use Rattle.picture.specs.Picture.{Fonts, byteAt, atPlace}
 use Rattle.repaint.specs.Repaint.{named, repainted, countNamed, painting, paints, repaint, sameCell}
 use Rattle.repaint.proofs.Shows.{in-cell-shows}
 use Rattle.repaint.proofs.Paintings.{paints-same, paints-both}
@@ -47,23 +47,23 @@ apart-cells v (Word x) (Word y) row column e =
     let second = eqb-true (shownWord v row (column / 2)) y (sym (in-cell-shows v y row column) ∙ q .1) in
     eqb-false x y e (sym first ∙ second))
 
-module _ (e : Seen) (m : Memories) (c : Control) (a b : Cell) (f : List ℕ) where
+module _ (e : Fonts) (m : Memories) (look : Look) (a b : Cell) (f : List ℕ) where
   pub cells-as-one :
       (n : ℕ) (g : List ℕ)
       → sameCell a b ≡ true
-      → painting n g ≡ paints (atPlace (inSomeCell (c .view) a)) (atPlace (byteAt e m c)) f
-      → painting n g ≡ repaint e m c (Cells a b) f
+      → painting n g ≡ paints (atPlace (inSomeCell (look .view) a)) (atPlace (byteAt e m look)) f
+      → painting n g ≡ repaint e m look (Cells a b) f
   unfolding repainted countNamed named covers
   cells-as-one n g s h =
-      h ∙ paints-same (atPlace (inSomeCell (c .view) a)) _ (atPlace (byteAt e m c)) f (λ i. one-cell (c .view) a b (i / 32) (i % 32) s)
+      h ∙ paints-same (atPlace (inSomeCell (look .view) a)) _ (atPlace (byteAt e m look)) f (λ i. one-cell (look .view) a b (i / 32) (i % 32) s)
 
   pub cells-as-two :
       (n k : ℕ) (g h : List ℕ)
       → sameCell a b ≡ false
-      → painting n g ≡ paints (atPlace (inSomeCell (c .view) a)) (atPlace (byteAt e m c)) f
-      → painting k h ≡ paints (atPlace (inSomeCell (c .view) b)) (atPlace (byteAt e m c)) g
-      → painting (n + k) h ≡ repaint e m c (Cells a b) f
+      → painting n g ≡ paints (atPlace (inSomeCell (look .view) a)) (atPlace (byteAt e m look)) f
+      → painting k h ≡ paints (atPlace (inSomeCell (look .view) b)) (atPlace (byteAt e m look)) g
+      → painting (n + k) h ≡ repaint e m look (Cells a b) f
   unfolding repainted countNamed named covers
   cells-as-two n k g h s first second =
-      paints-both (atPlace (inSomeCell (c .view) a)) (atPlace (inSomeCell (c .view) b)) (atPlace (byteAt e m c)) f g h n k
-      (λ i. apart-cells (c .view) a b (i / 32) (i % 32) s) first second
+      paints-both (atPlace (inSomeCell (look .view) a)) (atPlace (inSomeCell (look .view) b)) (atPlace (byteAt e m look)) f g h n k
+      (λ i. apart-cells (look .view) a b (i / 32) (i % 32) s) first second

@@ -1,6 +1,6 @@
 -- A byte that a transfer does not name is the same in the picture before and after it: every part that it depends on is.
 use Prim.Native.Nat.{ℕ, _/_, _<_}
-use mathlib.Core.Bool.{Bool, true, false, not, _&&_, true≢false, and-true}
+use mathlib.Core.Bool.{Bool, true, false, not, _&&_, _||_, true≢false, and-true}
 use mathlib.Core.Logic.{_≢_}
 use mathlib.Core.Path.{_≡_, refl, _∙_, sym, ap, subst}
 use mathlib.Core.List.{List}
@@ -19,6 +19,7 @@ use Rattle.controller.specs.declared.Waiting.the-variants as waiting
 use Rattle.controller.specs.declared.Place.{Place}
 use Rattle.controller.specs.declared.View.{View}
 use Rattle.controller.specs.declared.Control.{Control}
+use Rattle.controller.specs.declared.Cell.{Cell}
 use Rattle.controller.specs.declared.Cell.the-variants.{Nowhere, Word}
 use Rattle.controller.specs.declared.Region.{Region}
 use Rattle.controller.specs.declared.Region.the-variants.{Nothing, Whole, Cells, GlyphHalf, GraphicHalf}
@@ -30,9 +31,9 @@ use Rattle.controller.specs.Data.{isText, stored, nextCounter, counterAfter, mo
 use Rattle.controller.specs.Glass.{shownWord}
 use Rattle.controller.specs.Named.{counterCell, bothCells, endsStandby, graphicAddressNames, listed, instructionNames, textNames, writeByTarget, writeNames, readNames, inCell, inSomeCell, covers}
 use Rattle.controller.specs.Transfers.{executed, written, readOut}
-use Rattle.picture.specs.Picture.{Seen, atCounter, cellByte, graphicByte, byteAt}
+use Rattle.picture.specs.Picture.{Fonts, lookOf, atCounter, cellByte, graphicByte, byteAt}
 use Rattle.picture.proofs.Parts.{SameParts, equal-parts-equal-bytes}
-use Rattle.repaint.proofs.Shows.{in-cell-shows, counter-cell-shows}
+use Rattle.repaint.proofs.Shows.{in-cell-shows, some-cell-shows}
 use Rattle.picture.proofs.Unread.{text-unread, glyph-unshown, graphic-unshown}
 
 module _ (v : View) (text : List ℕ) (row column : ℕ) where
@@ -49,13 +50,13 @@ module _ (v : View) (text : List ℕ) (row column : ℕ) where
 
   -- where neither cell has the place, the counter's word is not shown there, before or after
   neither-here :
-      (p q : Place)
-      → covers v text (bothCells p q) row column ≡ false
-      → atCounter q (shownWord v row (column / 2)) ≡ atCounter p (shownWord v row (column / 2))
+      (a b : Cell)
+      → covers v text (Cells a b) row column ≡ false
+      → atCounter b (shownWord v row (column / 2)) ≡ atCounter a (shownWord v row (column / 2))
   unfolding covers
-  neither-here p q e =
-      let n = or-neither (inSomeCell v (counterCell p) row column) (inSomeCell v (counterCell q) row column) e in
-      sym (counter-cell-shows v q row column) ∙ n .1 ∙ sym (n .0) ∙ counter-cell-shows v p row column
+  neither-here a b e =
+      let n = or-neither (inSomeCell v a row column) (inSomeCell v b row column) e in
+      sym (some-cell-shows v b row column) ∙ n .1 ∙ sym (n .0) ∙ some-cell-shows v a row column
 
 -- after the low half the new word is not shown here either; after the high half the counter has not moved
 same-word :
@@ -67,36 +68,42 @@ same-word v row column true k next e u = sym (in-cell-shows v next row column) �
 same-word v row column false k next e u = refl
 
 -- where the target is not text the counter's word is nowhere
-neither : (t x y : Bool) → t ≡ false → (t && x) ≡ (t && y)
-neither true x y e = absurd (true≢false e)
-neither false x y e = refl
+neither : (t : Bool) (w x y : ℕ) → t ≡ false → atCounter (if t then Word x else Nowhere) w ≡ atCounter (if t then Word y else Nowhere) w
+neither true w x y e = absurd (true≢false e)
+neither false w x y e = refl
+
+-- where the same words are shown the counter's is
+at-text : (t : Bool) (w x y : ℕ) → eqb w x ≡ eqb w y → atCounter (if t then Word x else Nowhere) w ≡ atCounter (if t then Word y else Nowhere) w
+at-text true w x y e = e
+at-text false w x y e = refl
 
 -- where no text word completes the counter's word stays
 incomplete :
     (t low : Bool) (w next k : ℕ)
     → (t && low) ≡ false
-    → (t && eqb w (if low then next else k)) ≡ (t && eqb w k)
+    → atCounter (if t then Word (if low then next else k) else Nowhere) w ≡ atCounter (if t then Word k else Nowhere) w
 incomplete true true w next k e = absurd (true≢false e)
 incomplete true false w next k e = refl
 incomplete false low w next k e = refl
 
-module _ (e : Seen) (m : Memories) (c : Control) (row column : ℕ) where
+module _ (e : Fonts) (phase : Bool) (m : Memories) (c : Control) (row column : ℕ) where
   -- instructions
 
   -- an address set or a cursor move to p
   relocated :
       (p : Place)
       → covers (c .view) (m .text) (if c .standby && true then Whole else bothCells (c .place) p) row column ≡ false
-      → byteAt e m (withPlace p (begun c)) row column ≡ byteAt e m c row column
+      → byteAt e m (lookOf phase (withPlace p (begun c))) row column ≡ byteAt e m (lookOf phase c) row column
   relocated p u =
       let n = not-whole (c .view) (m .text) row column (c .standby && true) (bothCells (c .place) p) u in
-      equal-parts-equal-bytes e m m c (withPlace p (begun c)) row column
+      equal-parts-equal-bytes e m m (lookOf phase c) (lookOf phase (withPlace p (begun c))) row column
       (record {
-        shown = refl;
-        g = refl;
-        standby = sym (n .0) ∙ and-true (c .standby);
         view = refl;
-        here = neither-here (c .view) (m .text) row column (c .place) p (n .1);
+        here = neither-here (c .view) (m .text) row column (counterCell (c .place)) (counterCell p) (n .1);
+        cursor = refl;
+        blink = refl;
+        g = refl;
+        dark = ap (λ (x : Bool). not (c .shown .display) || x) (sym (n .0) ∙ and-true (c .standby));
         cell = refl;
         graphic = refl;
       })
@@ -105,17 +112,17 @@ module _ (e : Seen) (m : Memories) (c : Control) (row column : ℕ) where
   graphic-relocated :
       (w : Waiting) (a : ℕ)
       → covers (c .view) (m .text) (if c .standby && true then Whole else graphicAddressNames w (c .place) (graphicAddressed w (c .place) a)) row column ≡ false
-      → byteAt e m (withPlace (graphicAddressed w (c .place) a) (begun c)) row column ≡ byteAt e m c row column
-  unfolding atCounter
+      → byteAt e m (lookOf phase (withPlace (graphicAddressed w (c .place) a) (begun c))) row column ≡ byteAt e m (lookOf phase c) row column
   graphic-relocated waiting.Nothing a u =
       let n = not-whole (c .view) (m .text) row column (c .standby && true) Nothing u in
-      equal-parts-equal-bytes e m m c (withPlace (graphicAddressed waiting.Nothing (c .place) a) (begun c)) row column
+      equal-parts-equal-bytes e m m (lookOf phase c) (lookOf phase (withPlace (graphicAddressed waiting.Nothing (c .place) a) (begun c))) row column
       (record {
-        shown = refl;
-        g = refl;
-        standby = sym (n .0) ∙ and-true (c .standby);
         view = refl;
         here = refl;
+        cursor = refl;
+        blink = refl;
+        g = refl;
+        dark = ap (λ (x : Bool). not (c .shown .display) || x) (sym (n .0) ∙ and-true (c .standby));
         cell = refl;
         graphic = refl;
       })
@@ -127,18 +134,18 @@ module _ (e : Seen) (m : Memories) (c : Control) (row column : ℕ) where
   pub obeyed-unnamed :
       (i : Instruction)
       → covers (obeyed c i .view) (cleared i (m .text)) (instructionNames c (obeyed c i) i) row column ≡ false
-      → byteAt e (memories (cleared i (m .text)) (m .glyph) (m .graphic)) (obeyed c i) row column ≡ byteAt e m c row column
+      → byteAt e (memories (cleared i (m .text)) (m .glyph) (m .graphic)) (lookOf phase (obeyed c i)) row column ≡ byteAt e m (lookOf phase c) row column
   unfolding obeyed instructionNames
   obeyed-unnamed Ignored u = refl
   obeyed-unnamed Clear u = all-named _ _ (c .standby && true) u
   obeyed-unnamed Home u = all-named _ _ (c .standby && true) u
   obeyed-unnamed (EntryMode id s) u = all-named _ _ (c .standby && true) u
   obeyed-unnamed (Display display cursor blink) u = all-named _ _ (c .standby && true) u
-  obeyed-unnamed (MoveCursor right) u = relocated _ u
+  obeyed-unnamed (MoveCursor right) u = relocated (obeyed c (MoveCursor right) .place) u
   obeyed-unnamed (MoveDisplay right) u = all-named _ _ (c .standby && true) u
   obeyed-unnamed (FunctionSet dl re g) u = all-named _ _ (c .standby && true) u
-  obeyed-unnamed (GlyphAddress a) u = relocated _ u
-  obeyed-unnamed (TextAddress a) u = relocated _ u
+  obeyed-unnamed (GlyphAddress a) u = relocated (obeyed c (GlyphAddress a) .place) u
+  obeyed-unnamed (TextAddress a) u = relocated (obeyed c (TextAddress a) .place) u
   obeyed-unnamed Standby u = all-named _ _ (c .standby && false) u
   obeyed-unnamed (SetSr sr) u = all-named _ _ (c .standby && true) u
   obeyed-unnamed (ToggleReverse line) u = all-named _ _ (c .standby && true) u
@@ -156,14 +163,14 @@ module _ (e : Seen) (m : Memories) (c : Control) (row column : ℕ) where
   moved-on-same :
       (n : Memories)
       → shifts c ≡ false
-      → atCounter (moved (c .entry .id) (c .place)) (shownWord (c .view) row (column / 2)) ≡ atCounter (c .place) (shownWord (c .view) row (column / 2))
+      → atCounter (counterCell (moved (c .entry .id) (c .place))) (shownWord (c .view) row (column / 2)) ≡ atCounter (counterCell (c .place)) (shownWord (c .view) row (column / 2))
       → cellByte e n (c .view) row column ≡ cellByte e m (c .view) row column
       → graphicByte n (c .view) row column ≡ graphicByte m (c .view) row column
-      → byteAt e n (movedOn c) row column ≡ byteAt e m c row column
+      → byteAt e n (lookOf phase (movedOn c)) row column ≡ byteAt e m (lookOf phase c) row column
   unfolding movedOn
   moved-on-same n s h k g =
-      equal-parts-equal-bytes e m n c (movedOn c) row column
-      (record { shown = refl; g = refl; standby = refl; view = view-kept s; here = h; cell = k; graphic = g })
+      equal-parts-equal-bytes e m n (lookOf phase c) (lookOf phase (movedOn c)) row column
+      (record { view = view-kept s; here = h; cursor = refl; blink = refl; g = refl; dark = refl; cell = k; graphic = g })
 
   -- a write into the memory of the target t
   stored-unnamed :
@@ -173,23 +180,23 @@ module _ (e : Seen) (m : Memories) (c : Control) (row column : ℕ) where
       → c .place .target ≡ t
       → shifts c ≡ false
       → covers (c .view) (stored t (c .place) b m .text) (writeByTarget t (c .place) (movedOn c .place)) row column ≡ false
-      → byteAt e (stored t (c .place) b m) (movedOn c) row column ≡ byteAt e m c row column
-  unfolding stored covers atCounter moved movedOn cellByte graphicByte
+      → byteAt e (stored t (c .place) b m) (lookOf phase (movedOn c)) row column ≡ byteAt e m (lookOf phase c) row column
+  unfolding stored covers moved movedOn cellByte graphicByte
   stored-unnamed b Text r l q s u =
       let n = or-neither (inCell (c .view) (c .place .counter) row column) (inSomeCell (c .view) (if c .place .low then Word (counterAfter (c .entry .id) (c .place)) else Nowhere) row column) u in
       let k : eqb (shownWord (c .view) row (column / 2)) (c .place .counter) ≡ false = sym (in-cell-shows (c .view) (c .place .counter) row column) ∙ n .0 in
       moved-on-same (stored Text (c .place) b m) s
-      (ap (λ (x : Bool). isText (c .place .target) && x) (same-word (c .view) row column (c .place .low) (c .place .counter) _ k (n .1)))
+      (at-text (isText (c .place .target)) _ _ _ (same-word (c .view) row column (c .place .low) (c .place .counter) _ k (n .1)))
       (text-unread e m (c .view) row column (c .place .counter) (c .place .low) b (eqb-false (shownWord (c .view) row (column / 2)) (c .place .counter) k))
       refl
   stored-unnamed b Glyph r l q s u =
       moved-on-same (stored Glyph (c .place) b m) s
-      (neither (isText (c .place .target)) _ _ (ap isText q))
+      (neither (isText (c .place .target)) _ _ _ (ap isText q))
       (glyph-unshown e m (c .view) row column (c .place .counter) (c .place .low) b u)
       refl
   stored-unnamed b Graphic r l q s u =
       moved-on-same (stored Graphic (c .place) b m) s
-      (neither (isText (c .place .target)) _ _ (ap isText q))
+      (neither (isText (c .place .target)) _ _ _ (ap isText q))
       refl
       (graphic-unshown e m (c .view) row column (c .place .row) (c .place .counter) (c .place .low) b l (subst (λ (t : Target). c .place .counter < limit t) q (r .counter)) u)
 
@@ -198,7 +205,7 @@ module _ (e : Seen) (m : Memories) (c : Control) (row column : ℕ) where
       → InRange c
       → column < 32
       → covers (written m c b .done .control .view) (written m c b .memories .text) (written m c b .done .region) row column ≡ false
-      → byteAt e (written m c b .memories) (written m c b .done .control) row column ≡ byteAt e m c row column
+      → byteAt e (written m c b .memories) (lookOf phase (written m c b .done .control)) row column ≡ byteAt e m (lookOf phase c) row column
   unfolding written writeNames
   written-unnamed b r l u =
       let n = not-whole (movedOn c .view) (stored (c .place .target) (c .place) b m .text) row column (shifts c) (writeByTarget (c .place .target) (c .place) (movedOn c .place)) u in
@@ -208,29 +215,28 @@ module _ (e : Seen) (m : Memories) (c : Control) (row column : ℕ) where
   moved-unnamed :
       shifts c ≡ false
       → covers (c .view) (m .text) (if completes (c .place) then bothCells (c .place) (movedOn c .place) else Nothing) row column ≡ false
-      → byteAt e m (movedOn c) row column ≡ byteAt e m c row column
-  unfolding atCounter moved movedOn
+      → byteAt e m (lookOf phase (movedOn c)) row column ≡ byteAt e m (lookOf phase c) row column
+  unfolding moved movedOn
   moved-unnamed s u =
       moved-on-same m s
       (by-test (completes (c .place))
-      (λ t. neither-here (c .view) (m .text) row column (c .place) (movedOn c .place) (rw t at u))
+      (λ t. neither-here (c .view) (m .text) row column (counterCell (c .place)) (counterCell (movedOn c .place)) (rw t at u))
       (λ t. incomplete (isText (c .place .target)) (c .place .low) (shownWord (c .view) row (column / 2)) (nextCounter (c .place .target) (c .entry .id) (c .place .counter)) (c .place .counter) t))
       refl
       refl
 
-  dummy-same : byteAt e m (dummyRead c) row column ≡ byteAt e m c row column
-  unfolding atCounter
+  dummy-same : byteAt e m (lookOf phase (dummyRead c)) row column ≡ byteAt e m (lookOf phase c) row column
   dummy-same =
-      equal-parts-equal-bytes e m m c (dummyRead c) row column
-      (record { shown = refl; g = refl; standby = refl; view = refl; here = refl; cell = refl; graphic = refl })
+      equal-parts-equal-bytes e m m (lookOf phase c) (lookOf phase (dummyRead c)) row column
+      (record { view = refl; here = refl; cursor = refl; blink = refl; g = refl; dark = refl; cell = refl; graphic = refl })
 
   pub readOut-unnamed :
       covers (readOut m c .control .view) (m .text) (readOut m c .region) row column ≡ false
-      → byteAt e m (readOut m c .control) row column ≡ byteAt e m c row column
+      → byteAt e m (lookOf phase (readOut m c .control)) row column ≡ byteAt e m (lookOf phase c) row column
   unfolding readOut readNames
   readOut-unnamed =
       either-told
-      (λ (d : Done). covers (d .control .view) (m .text) (d .region) row column ≡ false → byteAt e m (d .control) row column ≡ byteAt e m c row column)
+      (λ (d : Done). covers (d .control .view) (m .text) (d .region) row column ≡ false → byteAt e m (lookOf phase (d .control)) row column ≡ byteAt e m (lookOf phase c) row column)
       (c .place .dummy)
       (λ q u. dummy-same)
       (λ q u. let n = not-whole (movedOn c .view) (m .text) row column (shifts c) _ u in moved-unnamed (n .0) (rw (view-kept (n .0)) at (n .1)))

@@ -1,31 +1,33 @@
 -- Document 01, "Bytes named for repaint": painting gives each named byte the value it has in the new picture and keeps all others,
 -- also where the frame held something else before; the answer counts distinct bytes rewritten, whether or not their content differs.
 use Prim.{Unit}
-use Prim.Native.Nat.{ℕ, _<_}
+use Prim.Native.Nat.{ℕ, _+_, _*_, _-_, _/_, _%_, _<_}
 use mathlib.Core.Bool.{Bool, false}
 use mathlib.Core.List.{List}
-use lib.Dec.{eqb}
+use lib.Dec.{eqb, ltb}
+use Rattle.base.specs.Choice.{if_then_else_}
 use Rattle.base.specs.Painting.{painted, count}
-use Rattle.controller.specs.declared.Control.{Control}
+use Rattle.controller.specs.declared.View.{View}
 use Rattle.controller.specs.declared.Cell.{Cell}
 use Rattle.controller.specs.declared.Cell.the-variants.{Nowhere, Word}
 use Rattle.controller.specs.declared.Region.{Region}
 use Rattle.controller.specs.declared.Region.the-variants.{Nothing, Whole, Cells, GlyphHalf, GraphicHalf}
 use Rattle.controller.specs.Memories.{Memories}
 use Rattle.controller.specs.Named.{covers}
-use Rattle.picture.specs.Picture.{Seen, byteAt, atPlace}
+use Rattle.picture.specs.declared.Look.{Look}
+use Rattle.picture.specs.Picture.{Fonts, byteAt, atPlace}
 
 -- the places of a region, in the state after the transfer
-unfoldable pub named : Memories → Control → Region → ℕ → Bool
-named m c region = atPlace (covers (c .view) (m .text) region)
+unfoldable pub named : View → List ℕ → Region → ℕ → Bool
+named v text region = atPlace (covers v text region)
 
 -- the frame after it was repainted
-unfoldable pub repainted : Seen → Memories → Control → Region → List ℕ → List ℕ
-repainted e m c region frame = painted (named m c region) (atPlace (byteAt e m c)) frame
+unfoldable pub repainted : Fonts → Memories → Look → Region → List ℕ → List ℕ
+repainted e m look region frame = painted (named (look .view) (m .text) region) (atPlace (byteAt e m look)) frame
 
 -- the number of bytes named
-unfoldable pub countNamed : Memories → Control → Region → ℕ
-countNamed m c region = count 1024 (named m c region)
+unfoldable pub countNamed : View → List ℕ → Region → ℕ
+countNamed v text region = count 1024 (named v text region)
 
 -- what painting leaves: the count that it answers, and the frame
 pub record Painting : Type 0 where
@@ -40,8 +42,8 @@ abbrev pub paints : (ℕ → Bool) → (ℕ → ℕ) → List ℕ → Painting
 paints set bytes frame = painting (count 1024 set) (painted set bytes frame)
 
 -- a region is painted and counted
-abbrev pub repaint : Seen → Memories → Control → Region → List ℕ → Painting
-repaint e m c region frame = painting (countNamed m c region) (repainted e m c region frame)
+abbrev pub repaint : Fonts → Memories → Look → Region → List ℕ → Painting
+repaint e m look region frame = painting (countNamed (look .view) (m .text) region) (repainted e m look region frame)
 
 -- From here on no sentence of document 01, but what the contracts of the painting functions ask and promise.
 
@@ -52,6 +54,11 @@ mostOf Whole = 1024
 mostOf (Cells a b) = 64
 mostOf (GlyphHalf word low) = 32
 mostOf (GraphicHalf row column low) = 1
+
+-- the view is within its ranges
+pub record ViewWithin (v : View) : Type 0 where
+  pub scroll : v .scroll < 64
+  pub shift : v .shift < 16
 
 -- the numbers that a region carries lie within the memories
 abbrev pub cellWithin : Cell → Type 0
@@ -70,3 +77,22 @@ abbrev pub sameCell : Cell → Cell → Bool
 sameCell Nowhere b = false
 sameCell (Word a) Nowhere = false
 sameCell (Word a) (Word b) = eqb a b
+
+-- the rows of the glass that show a line of text follow one another: the line's first row would stand at row `runTop` of 64
+abbrev pub runTop : ℕ → ℕ → ℕ
+runTop scroll line = (16 * line + 64 - scroll) % 64
+
+-- the first of them
+unfoldable pub runFirst : ℕ → ℕ → ℕ
+runFirst scroll line = if ltb (runTop scroll line) 32 then runTop scroll line else 0
+
+-- and the row after the last; 0 where none shows the line
+unfoldable pub runEnd : ℕ → ℕ → ℕ
+runEnd scroll line =
+    if ltb (runTop scroll line) 16 then runTop scroll line + 16
+    else if ltb (runTop scroll line) 32 then 32
+    else runTop scroll line - 48
+
+-- the two columns of a cell
+abbrev pub inColumns : ℕ → ℕ → ℕ → Bool
+inColumns cell row column = eqb (column / 2) cell

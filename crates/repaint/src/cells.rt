@@ -1,109 +1,111 @@
 // A cell: its two columns on the visible rows of its line.
 use controller::Cell;
-use controller::Control;
-use picture::paint::cell_pair;
+use picture::Look;
 use picture::paint::paint_row;
+use picture::tiles::lay_tile;
+use picture::tiles::tile_pair;
 ghost use mathlib.Core.Path.{_≡_};
-ghost use Prim.Native.Nat.{_+_, _*_, _<_};
+ghost use Prim.Native.Nat.{_+_, _*_, _<_, _≤_};
 ghost use lib.ListN.{length};
 ghost use Rattle.base.specs.Painting.{painted, between};
 ghost use Rattle.controller.specs.Memories.{before};
-ghost use Rattle.controller.specs.State.{InRange};
 ghost use Rattle.controller.specs.Named.{inCell, inSomeCell};
-ghost use Rattle.picture.specs.Picture.{seen, byteAt, atPlace, inCellRow};
-ghost use Rattle.repaint.specs.Repaint.{painting, paints, cellWithin};
+ghost use Rattle.picture.specs.Picture.{fonts, byteAt, atPlace, inCellRow};
+ghost use Rattle.picture.specs.Tiles.{shownBy};
+ghost use Rattle.repaint.specs.Repaint.{ViewWithin, painting, paints, cellWithin, runFirst, runEnd, inColumns};
+
+// The first row of the glass that shows a line of text, and the row after the last; both 0 where none shows it.
+fn run_first(scroll: usize, line: usize) -> usize
+    requires { ⌜ (scroll < 64) × (line < 4) ⌝ }
+    ensures { λ r. ⌜ r ≡ runFirst scroll line ⌝ }
+{
+    let top = (16 * line + 64 - scroll) % 64;
+    if top < 32 { top } else { 0 }
+}
+
+fn run_end(scroll: usize, line: usize) -> usize
+    requires { ⌜ (scroll < 64) × (line < 4) ⌝ }
+    ensures { λ r. ⌜ r ≡ runEnd scroll line ⌝ }
+{
+    let top = (16 * line + 64 - scroll) % 64;
+    if top < 16 {
+        return top + 16;
+    }
+    if top < 32 {
+        return 32;
+    }
+    if top < 48 {
+        return 0;
+    }
+    top - 48
+}
 
 // One row of one cell: the row painter is lent its two bytes, a part from the middle of the frame.
 fn paint_cell_row(
-    text: &[u8; 128],
-    glyph: &[u8; 128],
+    tile: &[u8],
     graphic: &[u8; 2048],
-    control: Control,
+    look: Look,
     row: usize,
     cell: usize,
     frame: &mut [u8],
-    half: &[u8],
-    full: &[u8],
-    phase: bool,
 )
-    requires { ⌜ (row < 32) × (cell < 16) × (length (now frame) ≡ 1024) × (length (now half) ≡ 2048) ⌝ }
-    ensures { λ _. ⌜ now (frame .exit) ≡ painted (atPlace (inCellRow row cell)) (atPlace (byteAt (seen half full phase) (before text glyph graphic) control)) (now (frame .entry)) ⌝ }
+    requires { ⌜ (row < 32) × (cell < 16) × (length (now tile) ≡ 32) × (length (now frame) ≡ 1024) ⌝ }
+    ensures { λ _. ⌜ now (frame .exit) ≡ painted (atPlace (inCellRow row cell)) (atPlace (shownBy (now (tile .entry)) (now (graphic .entry)) look)) (now (frame .entry)) ⌝ }
 {
-    let pair = cell_pair(text, glyph, graphic, control, row, cell, half, full, phase);
+    let pair = tile_pair(tile, graphic, look, row, cell);
     let start = 32 * row + 2 * cell;
     let end = start + 2;
     paint_row(&mut frame[start..end], pair);
 }
 
-// One row of the glass, where it shows the word's line.
-fn paint_if_shown(
-    text: &[u8; 128],
-    glyph: &[u8; 128],
+// A cell on the rows from `first` up to `end`.
+fn paint_rows(
+    tile: &[u8],
     graphic: &[u8; 2048],
-    control: Control,
-    word: usize,
-    row: usize,
+    look: Look,
+    cell: usize,
+    first: usize,
+    end: usize,
     frame: &mut [u8],
-    half: &[u8],
-    full: &[u8],
-    phase: bool,
 ) -> usize
-    requires { ⌜ InRange control × (word < 64) × (row < 32) × (length (now frame) ≡ 1024) × (length (now half) ≡ 2048) ⌝ }
-    ensures { λ r. ⌜ painting r (now (frame .exit)) ≡ paints (between (32 * row) (32 * row + 32) (atPlace (inCell (control .view) word))) (atPlace (byteAt (seen half full phase) (before text glyph graphic) control)) (now (frame .entry)) ⌝ }
+    requires { ⌜ (cell < 16) × (first ≤ end) × (end ≤ 32) × (length (now tile) ≡ 32) × (length (now frame) ≡ 1024) ⌝ }
+    ensures { λ r. ⌜ painting r (now (frame .exit)) ≡ paints (between (32 * first) (32 * end) (atPlace (inColumns cell))) (atPlace (shownBy (now (tile .entry)) (now (graphic .entry)) look)) (now (frame .entry)) ⌝ }
 {
-    let s = (row + control.view.scroll as usize) % 64;
-    if s / 16 != word / 16 {
-        return 0;
+    let mut count: usize = 0;
+    let mut row = first;
+    while row < end {
+        paint_cell_row(tile, graphic, look, row, cell, frame);
+        count += 2;
+        row += 1;
     }
-    let cell = (word + 16 - control.view.shift as usize) % 16;
-    paint_cell_row(
-        text,
-        glyph,
-        graphic,
-        control,
-        row,
-        cell,
-        frame,
-        half,
-        full,
-        phase,
-    );
-    2
+    count
 }
 
-// The cell of a text word.
+// The cell of a text word: looked up once, and only where its line shows.
 fn paint_word(
     text: &[u8; 128],
     glyph: &[u8; 128],
     graphic: &[u8; 2048],
-    control: Control,
+    look: Look,
     word: usize,
     frame: &mut [u8],
     half: &[u8],
     full: &[u8],
-    phase: bool,
 ) -> usize
-    requires { ⌜ InRange control × (word < 64) × (length (now frame) ≡ 1024) × (length (now half) ≡ 2048) ⌝ }
-    ensures { λ r. ⌜ painting r (now (frame .exit)) ≡ paints (atPlace (inCell (control .view) word)) (atPlace (byteAt (seen half full phase) (before text glyph graphic) control)) (now (frame .entry)) ⌝ }
+    requires { ⌜ ViewWithin (look .view) × (word < 64) × (length (now frame) ≡ 1024) × (length (now half) ≡ 2048) ⌝ }
+    ensures { λ r. ⌜ painting r (now (frame .exit)) ≡ paints (atPlace (inCell (look .view) word)) (atPlace (byteAt (fonts half full) (before text glyph graphic) look)) (now (frame .entry)) ⌝ }
 {
-    let mut count: usize = 0;
-    let mut row: usize = 0;
-    while row < 32 {
-        count += paint_if_shown(
-            text,
-            glyph,
-            graphic,
-            control,
-            word,
-            row,
-            frame,
-            half,
-            full,
-            phase,
-        );
-        row += 1;
+    let scroll = look.view.scroll as usize;
+    let line = word / 16;
+    let first = run_first(scroll, line);
+    let end = run_end(scroll, line);
+    if end == 0 {
+        return 0;
     }
-    count
+    let mut tile = [0u8; 32];
+    lay_tile(text, glyph, look, word, &mut tile, half, full);
+    let cell = (word + 16 - look.view.shift as usize) % 16;
+    paint_rows(&tile, graphic, look, cell, first, end, frame)
 }
 
 // A cell, where there is one.
@@ -111,15 +113,14 @@ pub(crate) fn paint_cell(
     text: &[u8; 128],
     glyph: &[u8; 128],
     graphic: &[u8; 2048],
-    control: Control,
+    look: Look,
     cell: Cell,
     frame: &mut [u8],
     half: &[u8],
     full: &[u8],
-    phase: bool,
 ) -> usize
-    requires { ⌜ InRange control × cellWithin cell × (length (now frame) ≡ 1024) × (length (now half) ≡ 2048) ⌝ }
-    ensures { λ r. ⌜ painting r (now (frame .exit)) ≡ paints (atPlace (inSomeCell (control .view) cell)) (atPlace (byteAt (seen half full phase) (before text glyph graphic) control)) (now (frame .entry)) ⌝ }
+    requires { ⌜ ViewWithin (look .view) × cellWithin cell × (length (now frame) ≡ 1024) × (length (now half) ≡ 2048) ⌝ }
+    ensures { λ r. ⌜ painting r (now (frame .exit)) ≡ paints (atPlace (inSomeCell (look .view) cell)) (atPlace (byteAt (fonts half full) (before text glyph graphic) look)) (now (frame .entry)) ⌝ }
 {
     match cell {
         Cell::Nowhere => 0,
@@ -127,12 +128,11 @@ pub(crate) fn paint_cell(
             text,
             glyph,
             graphic,
-            control,
+            look,
             word as usize,
             frame,
             half,
             full,
-            phase,
         ),
     }
 }

@@ -1,19 +1,18 @@
 // A half of a glyph or graphic word: the bytes that show it, one by one; the other byte of each pair keeps what it held.
-use controller::Control;
 use controller::Image;
 use controller::named::image;
 use controller::places::half as half_of;
+use picture::Look;
 use picture::paint::byte_at;
 ghost use mathlib.Core.Path.{_≡_};
 ghost use Prim.Native.Nat.{_+_, _*_, _%_, _<_};
 ghost use lib.ListN.{length, set};
 ghost use Rattle.base.specs.Painting.{between};
 ghost use Rattle.controller.specs.Memories.{before};
-ghost use Rattle.controller.specs.State.{InRange};
 ghost use Rattle.controller.specs.Glass.{placeOf, wordImage, isImage};
 ghost use Rattle.controller.specs.Named.{showsGlyph, showsGraphic};
-ghost use Rattle.picture.specs.Picture.{seen, byteAt, atPlace};
-ghost use Rattle.repaint.specs.Repaint.{painting, paints};
+ghost use Rattle.picture.specs.Picture.{fonts, byteAt, atPlace};
+ghost use Rattle.repaint.specs.Repaint.{ViewWithin, painting, paints};
 
 // Whether a text word shows an image.
 fn shows_image(text: &[u8; 128], word: usize, number: usize) -> bool
@@ -33,28 +32,17 @@ fn paint_byte(
     text: &[u8; 128],
     glyph: &[u8; 128],
     graphic: &[u8; 2048],
-    control: Control,
+    look: Look,
     row: usize,
     column: usize,
     frame: &mut [u8],
     half: &[u8],
     full: &[u8],
-    phase: bool,
 )
     requires { ⌜ (row < 32) × (column < 32) × (length (now frame) ≡ 1024) × (length (now half) ≡ 2048) ⌝ }
-    ensures { λ _. ⌜ now (frame .exit) ≡ set (now (frame .entry)) (placeOf row column) (byteAt (seen half full phase) (before text glyph graphic) control row column) ⌝ }
+    ensures { λ _. ⌜ now (frame .exit) ≡ set (now (frame .entry)) (placeOf row column) (byteAt (fonts half full) (before text glyph graphic) look row column) ⌝ }
 {
-    let byte = byte_at(
-        text,
-        glyph,
-        graphic,
-        control,
-        row,
-        column,
-        half,
-        full,
-        phase,
-    );
+    let byte = byte_at(text, glyph, graphic, look, row, column, half, full);
     let place = 32 * row + column;
     frame[place] = byte;
 }
@@ -64,7 +52,7 @@ fn paint_if_image(
     text: &[u8; 128],
     glyph: &[u8; 128],
     graphic: &[u8; 2048],
-    control: Control,
+    look: Look,
     word: usize,
     low: bool,
     row: usize,
@@ -72,53 +60,36 @@ fn paint_if_image(
     frame: &mut [u8],
     half: &[u8],
     full: &[u8],
-    phase: bool,
 ) -> usize
-    requires { ⌜ ((row + control .view .scroll) % 64 % 16 ≡ word % 16) × (row < 32) × (cell < 16) × (length (now frame) ≡ 1024) × (length (now half) ≡ 2048) ⌝ }
-    ensures { λ r. ⌜ painting r (now (frame .exit)) ≡ paints (between (32 * row + 2 * cell) (32 * row + 2 * cell + 2) (atPlace (showsGlyph (control .view) (now (text .entry)) word low))) (atPlace (byteAt (seen half full phase) (before text glyph graphic) control)) (now (frame .entry)) ⌝ }
+    requires { ⌜ ((row + look .view .scroll) % 64 % 16 ≡ word % 16) × (row < 32) × (cell < 16) × (length (now frame) ≡ 1024) × (length (now half) ≡ 2048) ⌝ }
+    ensures { λ r. ⌜ painting r (now (frame .exit)) ≡ paints (between (32 * row + 2 * cell) (32 * row + 2 * cell + 2) (atPlace (showsGlyph (look .view) (now (text .entry)) word low))) (atPlace (byteAt (fonts half full) (before text glyph graphic) look)) (now (frame .entry)) ⌝ }
 {
-    let s = (row + control.view.scroll as usize) % 64;
-    let shown = 16 * (s / 16) + (cell + control.view.shift as usize) % 16;
+    let s = (row + look.view.scroll as usize) % 64;
+    let shown = 16 * (s / 16) + (cell + look.view.shift as usize) % 16;
     if shows_image(text, shown, word / 16) {
         let column = 2 * cell + half_of(low);
-        paint_byte(
-            text,
-            glyph,
-            graphic,
-            control,
-            row,
-            column,
-            frame,
-            half,
-            full,
-            phase,
-        );
+        paint_byte(text, glyph, graphic, look, row, column, frame, half, full);
         return 1;
     }
     0
 }
 
-// One row of the glass, where it shows the glyph row.
+// One row of the glass that shows the glyph row.
 fn paint_glyph_row(
     text: &[u8; 128],
     glyph: &[u8; 128],
     graphic: &[u8; 2048],
-    control: Control,
+    look: Look,
     word: usize,
     low: bool,
     row: usize,
     frame: &mut [u8],
     half: &[u8],
     full: &[u8],
-    phase: bool,
 ) -> usize
-    requires { ⌜ (row < 32) × (length (now frame) ≡ 1024) × (length (now half) ≡ 2048) ⌝ }
-    ensures { λ r. ⌜ painting r (now (frame .exit)) ≡ paints (between (32 * row) (32 * row + 32) (atPlace (showsGlyph (control .view) (now (text .entry)) word low))) (atPlace (byteAt (seen half full phase) (before text glyph graphic) control)) (now (frame .entry)) ⌝ }
+    requires { ⌜ ((row + look .view .scroll) % 64 % 16 ≡ word % 16) × (row < 32) × (length (now frame) ≡ 1024) × (length (now half) ≡ 2048) ⌝ }
+    ensures { λ r. ⌜ painting r (now (frame .exit)) ≡ paints (between (32 * row) (32 * row + 32) (atPlace (showsGlyph (look .view) (now (text .entry)) word low))) (atPlace (byteAt (fonts half full) (before text glyph graphic) look)) (now (frame .entry)) ⌝ }
 {
-    let s = (row + control.view.scroll as usize) % 64;
-    if s % 16 != word % 16 {
-        return 0;
-    }
     let mut count: usize = 0;
     let mut cell: usize = 0;
     while cell < 16 {
@@ -126,7 +97,7 @@ fn paint_glyph_row(
             text,
             glyph,
             graphic,
-            control,
+            look,
             word,
             low,
             row,
@@ -134,48 +105,53 @@ fn paint_glyph_row(
             frame,
             half,
             full,
-            phase,
         );
         cell += 1;
     }
     count
 }
 
-// A half of a glyph word: each byte showing that half of that image row.
+// A half of a glyph word: each byte showing that half of that image row. A glyph row shows on two rows of the glass, sixteen apart.
 pub(crate) fn paint_glyph_half(
     text: &[u8; 128],
     glyph: &[u8; 128],
     graphic: &[u8; 2048],
-    control: Control,
+    look: Look,
     word: usize,
     low: bool,
     frame: &mut [u8],
     half: &[u8],
     full: &[u8],
-    phase: bool,
 ) -> usize
     requires { ⌜ (length (now frame) ≡ 1024) × (length (now half) ≡ 2048) ⌝ }
-    ensures { λ r. ⌜ painting r (now (frame .exit)) ≡ paints (atPlace (showsGlyph (control .view) (now (text .entry)) word low)) (atPlace (byteAt (seen half full phase) (before text glyph graphic) control)) (now (frame .entry)) ⌝ }
+    ensures { λ r. ⌜ painting r (now (frame .exit)) ≡ paints (atPlace (showsGlyph (look .view) (now (text .entry)) word low)) (atPlace (byteAt (fonts half full) (before text glyph graphic) look)) (now (frame .entry)) ⌝ }
 {
-    let mut count: usize = 0;
-    let mut row: usize = 0;
-    while row < 32 {
-        count += paint_glyph_row(
+    let row = (word % 16 + 256 - look.view.scroll as usize) % 16;
+    let count = paint_glyph_row(
+        text,
+        glyph,
+        graphic,
+        look,
+        word,
+        low,
+        row,
+        frame,
+        half,
+        full,
+    );
+    count
+        + paint_glyph_row(
             text,
             glyph,
             graphic,
-            control,
+            look,
             word,
             low,
-            row,
+            row + 16,
             frame,
             half,
             full,
-            phase,
-        );
-        row += 1;
-    }
-    count
+        )
 }
 
 // A half of a graphic word: its byte, if visible.
@@ -183,33 +159,21 @@ pub(crate) fn paint_graphic_half(
     text: &[u8; 128],
     glyph: &[u8; 128],
     graphic: &[u8; 2048],
-    control: Control,
+    look: Look,
     y: usize,
     column: usize,
     low: bool,
     frame: &mut [u8],
     half: &[u8],
     full: &[u8],
-    phase: bool,
 ) -> usize
-    requires { ⌜ InRange control × (y < 64) × (column < 16) × (length (now frame) ≡ 1024) × (length (now half) ≡ 2048) ⌝ }
-    ensures { λ r. ⌜ painting r (now (frame .exit)) ≡ paints (atPlace (showsGraphic (control .view) y column low)) (atPlace (byteAt (seen half full phase) (before text glyph graphic) control)) (now (frame .entry)) ⌝ }
+    requires { ⌜ ViewWithin (look .view) × (y < 64) × (column < 16) × (length (now frame) ≡ 1024) × (length (now half) ≡ 2048) ⌝ }
+    ensures { λ r. ⌜ painting r (now (frame .exit)) ≡ paints (atPlace (showsGraphic (look .view) y column low)) (atPlace (byteAt (fonts half full) (before text glyph graphic) look)) (now (frame .entry)) ⌝ }
 {
-    let row = (y + 64 - control.view.scroll as usize) % 64;
+    let row = (y + 64 - look.view.scroll as usize) % 64;
     if row < 32 {
         let at = 2 * column + half_of(low);
-        paint_byte(
-            text,
-            glyph,
-            graphic,
-            control,
-            row,
-            at,
-            frame,
-            half,
-            full,
-            phase,
-        );
+        paint_byte(text, glyph, graphic, look, row, at, frame, half, full);
         return 1;
     }
     0

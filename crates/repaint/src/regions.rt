@@ -3,17 +3,16 @@ use crate::cells::paint_cell;
 use crate::halves::paint_glyph_half;
 use crate::halves::paint_graphic_half;
 use controller::Cell;
-use controller::Control;
 use controller::Region;
-use picture::paint::paint_whole;
+use picture::Look;
+use picture::whole::paint_whole;
 ghost use mathlib.Core.Path.{_≡_};
 ghost use Prim.Native.Nat.{_≤_};
 ghost use lib.ListN.{length};
 ghost use Rattle.controller.specs.Memories.{before};
-ghost use Rattle.controller.specs.State.{InRange};
 ghost use Rattle.controller.specs.declared.Region.the-variants.{Cells};
-ghost use Rattle.picture.specs.Picture.{seen};
-ghost use Rattle.repaint.specs.Repaint.{painting, repaint, cellWithin, regionWithin, mostOf, sameCell};
+ghost use Rattle.picture.specs.Picture.{fonts};
+ghost use Rattle.repaint.specs.Repaint.{ViewWithin, painting, repaint, cellWithin, regionWithin, mostOf, sameCell};
 
 // Whether two cells are one: then it is painted and counted once.
 fn same_cell(a: Cell, b: Cell) -> bool
@@ -32,22 +31,21 @@ fn paint_cells(
     text: &[u8; 128],
     glyph: &[u8; 128],
     graphic: &[u8; 2048],
-    control: Control,
+    look: Look,
     a: Cell,
     b: Cell,
     frame: &mut [u8],
     half: &[u8],
     full: &[u8],
-    phase: bool,
 ) -> usize
-    requires { ⌜ InRange control × cellWithin a × cellWithin b × (length (now frame) ≡ 1024) × (length (now half) ≡ 2048) ⌝ }
-    ensures { λ r. ⌜ painting r (now (frame .exit)) ≡ repaint (seen half full phase) (before text glyph graphic) control (Cells a b) (now (frame .entry)) ⌝ }
+    requires { ⌜ ViewWithin (look .view) × cellWithin a × cellWithin b × (length (now frame) ≡ 1024) × (length (now half) ≡ 2048) ⌝ }
+    ensures { λ r. ⌜ painting r (now (frame .exit)) ≡ repaint (fonts half full) (before text glyph graphic) look (Cells a b) (now (frame .entry)) ⌝ }
 {
-    let first = paint_cell(text, glyph, graphic, control, a, frame, half, full, phase);
+    let first = paint_cell(text, glyph, graphic, look, a, frame, half, full);
     if same_cell(a, b) {
         return first;
     }
-    first + paint_cell(text, glyph, graphic, control, b, frame, half, full, phase)
+    first + paint_cell(text, glyph, graphic, look, b, frame, half, full)
 }
 
 // Paints a region of the glass, and answers how many bytes it has.
@@ -55,61 +53,45 @@ pub fn paint(
     text: &[u8; 128],
     glyph: &[u8; 128],
     graphic: &[u8; 2048],
-    control: Control,
+    look: Look,
     region: Region,
     frame: &mut [u8],
     half: &[u8],
     full: &[u8],
-    phase: bool,
 ) -> usize
-    requires { ⌜ InRange control × regionWithin region × (length (now frame) ≡ 1024) × (length (now half) ≡ 2048) ⌝ }
-    ensures { λ r. ⌜ painting r (now (frame .exit)) ≡ repaint (seen half full phase) (before text glyph graphic) control region (now (frame .entry)) ⌝ }
+    requires { ⌜ ViewWithin (look .view) × regionWithin region × (length (now frame) ≡ 1024) × (length (now half) ≡ 2048) ⌝ }
+    ensures { λ r. ⌜ painting r (now (frame .exit)) ≡ repaint (fonts half full) (before text glyph graphic) look region (now (frame .entry)) ⌝ }
     ensures most { λ r. ⌜ r ≤ mostOf region ⌝ }
 {
     match region {
         Region::Nothing => 0,
         Region::Whole => {
-            paint_whole(text, glyph, graphic, control, frame, half, full, phase);
+            paint_whole(text, glyph, graphic, look, frame, half, full);
             1024
         }
-        Region::Cells(a, b) => {
-            paint_cells(
-                text,
-                glyph,
-                graphic,
-                control,
-                a,
-                b,
-                frame,
-                half,
-                full,
-                phase,
-            )
-        }
+        Region::Cells(a, b) => { paint_cells(text, glyph, graphic, look, a, b, frame, half, full) }
         Region::GlyphHalf { word, low } => paint_glyph_half(
             text,
             glyph,
             graphic,
-            control,
+            look,
             word as usize,
             low,
             frame,
             half,
             full,
-            phase,
         ),
         Region::GraphicHalf { row, column, low } => paint_graphic_half(
             text,
             glyph,
             graphic,
-            control,
+            look,
             row as usize,
             column as usize,
             low,
             frame,
             half,
             full,
-            phase,
         ),
     }
 }

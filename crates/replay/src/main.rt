@@ -8,7 +8,7 @@ use panel::Made;
 use panel::Panel;
 use transcript::Told;
 ghost use Prim.Native.Nat.{_+_, _/_, _≤_};
-ghost use mathlib.Core.Bool.{true};
+ghost use mathlib.Core.Bool.{false};
 ghost use mathlib.Core.Path.{_≡_};
 ghost use lib.ListN.{length};
 ghost use Rattle.lent.specs.State.{Valid};
@@ -87,6 +87,7 @@ fn print(text: &[u8]) -> bool {
 fn part(panel: Panel, place: usize, frame: &mut [u8; 1024]) -> Came
     requires { ⌜ Valid (stateOf panel) ⌝ }
     ensures { λ r. ⌜ Valid (stateOf (r .told .panel)) ⌝ }
+    ensures through { λ r. ⌜ (r .told .number ≡ 0 → r .told .full ≡ false → r .told .place ≡ place + r .bytes / 4) ⌝ }
 {
     let half = [0u8; 2048];
     let full = [0u8; 0];
@@ -122,16 +123,6 @@ fn print_last(place: usize, number: u8) {
     print(&text[..n]);
 }
 
-// Whether all records that so many bytes hold were accepted.
-fn all_taken(before: usize, after: usize, bytes: usize) -> bool
-    ensures { λ r. ⌜ (r ≡ true → after ≡ before + bytes / 4) ⌝ }
-{
-    if after < before {
-        return false;
-    }
-    after - before == bytes / 4
-}
-
 // Part after part. A refusal stops the replay also where the read after it failed.
 fn main() {
     let mut frame = [0u8; 1024];
@@ -150,7 +141,7 @@ fn main() {
         if came.unread {
             return;
         }
-        if !all_taken(place, told.place, came.bytes) {
+        if told.full {
             io::write_all(STDERR_FILENO, b"replay: too many records\n");
             return;
         }

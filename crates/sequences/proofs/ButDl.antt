@@ -6,7 +6,7 @@ use mathlib.Core.Path.{_≡_, refl, sym, ap, _∙_}
 use native.Mathlib.Omega.{arith}
 use lib.Dec.{eqb}
 use Rattle.base.specs.Bits.{bit, bits3-0}
-use Rattle.base.proofs.Choice.{either}
+use Rattle.base.proofs.Choice.{either, by-test}
 use Rattle.table.specs.declared.Modes.{Modes}
 use Rattle.table.specs.declared.Instruction.{Instruction}
 use Rattle.table.specs.declared.Instruction.the-variants.{Ignored, Clear, Home, EntryMode, Display, MoveCursor, MoveDisplay, FunctionSet, GlyphAddress, TextAddress, Standby, SetSr, ToggleReverse, Scroll, GraphicAddress}
@@ -18,15 +18,18 @@ use Rattle.controller.specs.Memories.{Memories}
 use Rattle.controller.specs.Instructions as instructions
 use Rattle.controller.specs.Instructions.{withFunction, begun, obeyed, cleared, modes}
 use Rattle.controller.specs.Data.{movedOn}
-use Rattle.controller.specs.Named.{instructionNames, writeNames}
-use Rattle.controller.specs.Transfers.{Acted, acted, instructed, obeyedDone, executed, written}
+use Rattle.controller.specs.Named.{instructionNames, writeNames, readNames}
+use Rattle.controller.specs.Transfers.{Acted, acted, instructed, obeyedDone, executed, written, readOut, statusRead, withText, carriedOut, performed}
+use Rattle.events.specs.declared.Transfer.{Transfer}
+use Rattle.events.specs.declared.Transfer.the-variants.{Instruct, Write, Status, Read}
+use Rattle.events.specs.declared.Deed.{Deed}
+use Rattle.events.specs.declared.Deed.the-variants.{Nothing, Whole, Fresh}
 use Rattle.links.specs.Halves as halves
 use Rattle.links.specs.Items.{SameButBit4, same, functionSets}
 use Rattle.links.specs.Connector.{act}
 use Rattle.links.specs.Statements.{Respected}
 use Rattle.picture.specs.Picture.{Seen, byteAt, effectsOf}
 use Rattle.repaint.specs.Repaint.{repainted, countNamed, named}
-use Rattle.steps.specs.Steps.{withText, carriedOut}
 use Rattle.sequences.specs.Wires.{Board, boardAfter, board, withDl}
 
 -- all but DL of what a transfer leaves, and of a board
@@ -110,19 +113,46 @@ carriedOut-but-dl m c (same {register = false} {b = b}) = obeyed-but-dl m c (sai
 carriedOut-but-dl m c (same {register = true} {b = b}) = refl
 carriedOut-but-dl m c (functionSets {b = b} {c = d} p q r s e) = function-sets-but-dl m c b d p q r s e
 
+-- a read looks at no DL either
+read-but-dl : (m : Memories) (c : Control) → actedButDl (acted m (readOut m c)) ≡ actedButDl (acted m (readOut m (withDl true c)))
+unfolding readOut readNames movedOn
+read-but-dl m c = by-test (c .place .dummy) (λ t. rw t) (λ t. rw t)
+
+-- so it is with every deed
+pub performed-but-dl : (m : Memories) (c : Control) (d : Deed) → actedButDl (performed m c d) ≡ actedButDl (performed m (withDl true c) d)
+unfolding performed carriedOut statusRead
+performed-but-dl m c Nothing = refl
+performed-but-dl m c (Whole (Instruct byte)) = carriedOut-but-dl m c (same {register = false} {b = byte})
+performed-but-dl m c (Whole (Write byte)) = carriedOut-but-dl m c (same {register = true} {b = byte})
+performed-but-dl m c (Whole Status) = refl
+performed-but-dl m c (Whole Read) = read-but-dl m c
+performed-but-dl m c (Fresh pin) = refl
+
 -- the picture and the named bytes do not look at DL
 boardAfter-but-dl : (e : Seen) (b : Board) (a : Acted) → boardButDl (boardAfter e b a) ≡ boardButDl (boardAfter e b (actedButDl a))
 unfolding repainted countNamed named byteAt effectsOf
 boardAfter-but-dl e b a = refl
 
 module _ (e : Seen) where
+  -- what leaves the same but DL leaves boards that are the same but DL
+  acted-but-dl : (b : Board) (x y : Acted) → actedButDl x ≡ actedButDl y →
+      boardButDl (boardAfter e b x) ≡ boardButDl (boardAfter e (boardButDl b) y)
+  acted-but-dl b x y q =
+      boardAfter-but-dl e b x ∙ ap (λ (a : Acted). boardButDl (boardAfter e b a)) q ∙ sym (boardAfter-but-dl e b y)
+
   -- a write, and one alike on the board with DL set
   act-but-dl : (s : Board) {register : Bool} {b d : ℕ} → SameButBit4 register b d →
       boardButDl (act (board e) s register b) ≡ boardButDl (act (board e) (boardButDl s) register d)
+  unfolding performed
   act-but-dl s {register} {b} {d} q =
-      boardAfter-but-dl e s (carriedOut (s .memories) (s .control) (halves.writing register b))
-      ∙ ap (λ (a : Acted). boardButDl (boardAfter e s a)) (carriedOut-but-dl (s .memories) (s .control) q)
-      ∙ sym (boardAfter-but-dl e s (carriedOut (s .memories) (withDl true (s .control)) (halves.writing register d)))
+      acted-but-dl s (carriedOut (s .memories) (s .control) (halves.writing register b))
+      (carriedOut (s .memories) (withDl true (s .control)) (halves.writing register d)) (carriedOut-but-dl (s .memories) (s .control) q)
+
+  deed-but-dl : (s : Board) (d : Deed) →
+      boardButDl (board e .perform s d .state) ≡ boardButDl (board e .perform (boardButDl s) d .state)
+  deed-but-dl s d =
+      acted-but-dl s (performed (s .memories) (s .control) d) (performed (s .memories) (withDl true (s .control)) d)
+      (performed-but-dl (s .memories) (s .control) d)
 
   pub board-respects : Respected (board e) (λ s t. boardButDl s ≡ boardButDl t)
   board-respects = record {
@@ -130,5 +160,8 @@ module _ (e : Seen) where
         act-but-dl s q
         ∙ ap (λ (x : Board). boardButDl (act (board e) x register d)) same-board
         ∙ sym (act-but-dl t {register = register} {b = d} same);
-    events = λ s t x same-board. same-board;
+    events = λ s t x same-board.
+        deed-but-dl s (x .deed)
+        ∙ ap (λ (y : Board). boardButDl (board e .perform y (x .deed) .state)) same-board
+        ∙ sym (deed-but-dl t (x .deed));
   }

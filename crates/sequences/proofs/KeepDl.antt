@@ -19,12 +19,11 @@ use Rattle.controller.specs.Memories.{Memories}
 use Rattle.controller.specs.Instructions as instructions
 use Rattle.controller.specs.Instructions.{obeyed, modes}
 use Rattle.controller.specs.Data.{movedOn}
-use Rattle.controller.specs.Transfers.{executed, written}
+use Rattle.controller.specs.Transfers.{executed, written, carriedOut, performed}
 use Rattle.links.specs.Halves as halves
-use Rattle.links.specs.Items.{WholeWrite}
-use Rattle.links.specs.Connector.{act, bytes, halves, serial, HasDl}
+use Rattle.links.specs.Items.{WholeWrite, bytes, halves, serial}
+use Rattle.links.specs.Connector.{act, HasDl}
 use Rattle.picture.specs.Picture.{Seen}
-use Rattle.steps.specs.Steps.{carriedOut}
 use Rattle.sequences.specs.Wires.{Board, boardOf, items, board, SetsDl}
 use Rattle.sequences.specs.Agreement.{FunctionSetsKeepDl}
 
@@ -119,7 +118,7 @@ module _ (dl : Bool) where
   write-dl m c true b h k = h
 
   writes-dl : (e : Seen) (writes : List WholeWrite) (b : Board) → b .control .function .dl ≡ dl → SetsDl dl writes → HasDl (board e) dl b (items writes)
-  unfolding HasDl SetsDl
+  unfolding HasDl SetsDl performed
   writes-dl e [] b h k = h
   writes-dl e (w ∷ writes) b h k = (
     h,

@@ -2,7 +2,5 @@ pub mod Repainted
 pub mod Bounded
 pub mod Sequences
 pub mod ButDl
-pub mod Heard
-pub mod Connected
 pub mod Agreement
 pub mod KeepDl

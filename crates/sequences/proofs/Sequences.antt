@@ -3,14 +3,15 @@ use Prim.Native.Nat.{ℕ}
 use mathlib.Core.List.{List, [], _∷_, _++_}
 use mathlib.Core.Path.{_≡_, refl, ap}
 use lib.ListN.{length, replicate}
-use Rattle.picture.specs.Picture.{Seen, picture}
+use Rattle.picture.specs.Picture.{Seen, pictured}
+use Rattle.events.specs.declared.Event.{Event}
 use Rattle.lent.specs.State.{State, Valid}
-use Rattle.lent.specs.Calls.{Call, called, after}
+use Rattle.lent.specs.Calls.{called, after}
 use Rattle.lent.proofs.Kept.{called-valid}
 use Rattle.sequences.specs.Wires.{answers, numbersOf}
 use Rattle.sequences.proofs.Repainted.{called-shows}
 
-pub after-valid : (e : Seen) (s : State) (frame : List ℕ) (calls : List Call) → Valid s → Valid (after e s frame calls .state)
+pub after-valid : (e : Seen) (s : State) (frame : List ℕ) (calls : List Event) → Valid s → Valid (after e s frame calls .state)
 unfolding after
 after-valid e s frame [] v = v
 after-valid e s frame (call ∷ calls) v =
@@ -18,10 +19,10 @@ after-valid e s frame (call ∷ calls) v =
 
 -- so a frame that begins as the picture goes on being it
 pub after-shows :
-    (e : Seen) (s : State) (frame : List ℕ) (calls : List Call)
+    (e : Seen) (s : State) (frame : List ℕ) (calls : List Event)
     → Valid s
-    → frame ≡ picture e (s .memories) (s .control)
-    → after e s frame calls .frame ≡ picture e (after e s frame calls .state .memories) (after e s frame calls .state .control)
+    → frame ≡ pictured e (s .memories) (s .control)
+    → after e s frame calls .frame ≡ pictured e (after e s frame calls .state .memories) (after e s frame calls .state .control)
 unfolding after
 after-shows e s frame [] v h = h
 after-shows e s frame (call ∷ calls) v h =
@@ -30,7 +31,7 @@ after-shows e s frame (call ∷ calls) v h =
 
 -- some calls, then some more
 pub after-append :
-    (e : Seen) (calls more : List Call) (s : State) (frame : List ℕ)
+    (e : Seen) (calls more : List Event) (s : State) (frame : List ℕ)
     → after e s frame (calls ++ more) ≡ after e (after e s frame calls .state) (after e s frame calls .frame) more
 unfolding after
 after-append e [] more s frame = refl
@@ -38,7 +39,7 @@ after-append e (call ∷ calls) more s frame =
     after-append e calls more (called e s frame call .state) (called e s frame call .frame)
 
 pub numbers-append :
-    (e : Seen) (calls more : List Call) (s : State) (frame : List ℕ)
+    (e : Seen) (calls more : List Event) (s : State) (frame : List ℕ)
     → numbersOf e s frame (calls ++ more)
     ≡ numbersOf e s frame calls ++ numbersOf e (after e s frame calls .state) (after e s frame calls .frame) more
 unfolding after answers
@@ -48,7 +49,7 @@ numbers-append e (call ∷ calls) more s frame =
     (numbers-append e calls more (called e s frame call .state) (called e s frame call .frame))
 
 pub zeros-append :
-    (calls more : List Call)
+    (calls more : List Event)
     → replicate {A = ℕ} (length (calls ++ more)) 0 ≡ replicate (length calls) 0 ++ replicate (length more) 0
 zeros-append [] more = refl
 zeros-append (call ∷ calls) more = ap (λ (ns : List ℕ). 0 ∷ ns) (zeros-append calls more)

@@ -1,3 +1,2 @@
-pub mod Carried
 pub mod Wires
 pub mod Agreement

@@ -3,8 +3,9 @@
 // Prints a number that depends on all that was done, so that none of it can be left out.
 use controller::Control;
 use libc::STDOUT_FILENO;
+use events::Event;
 use links::Link;
-use links::Transfer;
+use events::Transfer;
 use panel::Made;
 use panel::Panel;
 ghost use Prim.Native.Nat.{_<_, _≤_};
@@ -51,13 +52,13 @@ fn on_lent() -> u64 {
     let mut i: u32 = 0;
     while i < TIMES {
         let byte = (i % 128) as u8;
-        let answer = lent::transfer(
+        let answer = lent::call(
             &mut text,
             &mut glyph,
             &mut graphic,
             control,
             link,
-            Transfer::Write(byte),
+            Event::Transfer(Transfer::Write(byte)),
             &mut frame,
             &half,
             &full,

@@ -9,9 +9,10 @@ use lib.ListN.{length}
 use Rattle.base.specs.Bits as bits
 use Rattle.picture.specs.Picture.{Seen}
 use Rattle.lent.specs.State.{State, Valid}
-use Rattle.lent.specs.Calls.{bit, Called, refused, called}
+use Rattle.events.specs.declared.Event.the-variants.{Bit}
+use Rattle.lent.specs.Calls.{Called, refused, called}
 use Rattle.transcript.specs.Records.{counted, heard, eightBits}
-use Rattle.transcript.proofs.Refused.{called-unmoved, called-count, called-length}
+use Rattle.lent.proofs.Kept.{called-unmoved, called-count, called-length}
 
 module _ (e : Seen) (value : ℕ) where
   -- from the first bit on, of which a count was kept
@@ -22,7 +23,7 @@ module _ (e : Seen) (value : ℕ) where
     pub framed : length frame ≡ length frame₀
     pub same : counted count₀ (heard e value 7 s₀ frame₀) ≡ counted count (heard e value left s frame)
 
-  module _ (s : State) (frame : List ℕ) (k : Called) (is : k ≡ called e s frame (bit (bits.bit 7 value))) where
+  module _ (s : State) (frame : List ℕ) (k : Called) (is : k ≡ called e s frame (Bit (bits.bit 7 value))) where
     -- a refused first bit refuses the record
     pub refuses : (k .number ≡ 0 → ⊥) → k ≡ eightBits e value s frame
     unfolding eightBits
@@ -33,7 +34,7 @@ module _ (e : Seen) (value : ℕ) where
     pub begins : Valid (k .state) → Hearing (k .count) (k .state) (k .frame) 7 (k .count) (k .state) (k .frame)
     begins v = record {
       most = omega arith;
-      few = omega (arith, ap (λ (x : Called). x .count) is, called-count e s frame (bit (bits.bit 7 value)));
+      few = omega (arith, ap (λ (x : Called). x .count) is, called-count e s frame (Bit (bits.bit 7 value)));
       valid = v;
       framed = refl;
       same = refl;
@@ -45,20 +46,20 @@ module _ (e : Seen) (value : ℕ) where
     accepts h = rw (← is, eq-eqb (k .number) 0 h)
 
   module _ {count₀ : ℕ} {s₀ : State} {frame₀ : List ℕ} {n count : ℕ} {s : State} {frame : List ℕ} (g : Hearing count₀ s₀ frame₀ n count s frame) where
-    pub fits : (left : ℕ) (k : Called) → n ≡ suc left → k ≡ called e s frame (bit (bits.bit left value)) → count + k .count ≤ 8192
-    fits left k m is = omega (arith, g .few, ap (λ (x : Called). x .count) is, called-count e s frame (bit (bits.bit left value)))
+    pub fits : (left : ℕ) (k : Called) → n ≡ suc left → k ≡ called e s frame (Bit (bits.bit left value)) → count + k .count ≤ 8192
+    fits left k m is = omega (arith, g .few, ap (λ (x : Called). x .count) is, called-count e s frame (Bit (bits.bit left value)))
 
     -- one more bit
     pub turns :
         (left : ℕ) (k : Called)
         → n ≡ suc left
-        → k ≡ called e s frame (bit (bits.bit left value))
+        → k ≡ called e s frame (Bit (bits.bit left value))
         → Valid (k .state)
         → Hearing count₀ s₀ frame₀ left (count + k .count) (k .state) (k .frame)
     unfolding heard
     turns left k m is v = record {
       most = omega (arith, g .most);
-      few = omega (arith, g .few, ap (λ (x : Called). x .count) is, called-count e s frame (bit (bits.bit left value)));
+      few = omega (arith, g .few, ap (λ (x : Called). x .count) is, called-count e s frame (Bit (bits.bit left value)));
       valid = v;
       framed = ap (λ (x : Called). length (x .frame)) is ∙ called-length e s frame _ ∙ g .framed;
       same = g .same ∙ rw (m, ← is, add-assoc);

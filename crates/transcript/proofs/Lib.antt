@@ -1,8 +1,8 @@
 pub mod Refused
 pub mod Once
 pub mod Bits
-pub mod OtherKinds
 pub mod Going
-pub mod Lines
+pub mod Endless
 pub mod Parts
 pub mod Roomy
+pub mod Through

@@ -9,12 +9,16 @@ use lib.ListN.{length, replicate}
 use Rattle.base.specs.Bits as bits
 use Rattle.controller.specs.declared.Control.{Control}
 use Rattle.controller.specs.Memories.{Memories}
+use Rattle.controller.specs.Transfers.{performed}
 use Rattle.links.specs.declared.Link.{Link}
 use Rattle.links.specs.declared.Link.the-variants.{Parallel, Serial}
 use Rattle.links.specs.declared.Receiver.{Receiver}
 use Rattle.links.specs.declared.Received.{Received}
 use Rattle.links.specs.declared.Received.the-variants as received
 use Rattle.links.specs.declared.Heard.{Heard}
+use Rattle.events.specs.declared.Event.the-variants.{Bit}
+use Rattle.links.specs.declared.Rest.the-variants.{Stays}
+use Rattle.links.specs.Taken.{deedOf, takenBy}
 use Rattle.links.specs.Serial as serial
 use Rattle.links.proofs.Seldom.{at-most-one-byte}
 use Rattle.picture.specs.Picture.{Seen}
@@ -22,11 +26,11 @@ use Rattle.picture.specs.Refusals.{refusalOf}
 use Rattle.repaint.specs.Repaint.{named, countNamed}
 use Rattle.repaint.proofs.Counts.{count-nothing}
 use Rattle.lent.specs.State.{State, state}
-use Rattle.steps.specs.Steps.{heardStep, bitStep}
-use Rattle.lent.specs.Calls.{bit, takenBy, Called, refused, accepted, called}
+use Rattle.lent.specs.Calls.{Called, refused, accepted, called}
 use Rattle.transcript.specs.Records.{heard, eightBits, recorded}
 use Rattle.transcript.specs.Statements.{bitCounts, OneCounts, EightBitsCountOnce}
-use Rattle.transcript.proofs.Refused.{called-count, called-length, of-each}
+use Rattle.lent.proofs.Kept.{called-count, called-length}
+use Rattle.transcript.proofs.Refused.{of-each}
 
 sum : List ℕ → ℕ
 sum [] = 0
@@ -103,22 +107,25 @@ module _ (e : Seen) (value : ℕ) where
   heard-sum : (n : ℕ) (s : State) (f : List ℕ) → heard e value n s f .count ≡ sum (bitCounts e value n s f)
   unfolding heard bitCounts sum
   heard-sum zero s f = refl
-  heard-sum (suc n) s f = ap (λ (i : ℕ). called e s f (bit (bits.bit n value)) .count + i) (heard-sum n _ _)
+  heard-sum (suc n) s f = ap (λ (i : ℕ). called e s f (Bit (bits.bit n value)) .count + i) (heard-sum n _ _)
 
   some-count : (n : ℕ) (s : State) (f : List ℕ) → 1 ≤ length (bitCounts e value (suc n) s f)
   unfolding bitCounts
   some-count n s f = omega arith
 
   -- on the serial link a bit is heard
+  abbrev heardCall : Memories → Control → List ℕ → Heard → Called
+  heardCall m c f h = accepted e f (performed m c (deedOf (h .received))) (Stays (Serial (h .receiver)))
+
   taken-bit :
       (m : Memories) (c : Control) (r : Receiver) (f : List ℕ) (b : Bool)
       → Fits f
-      → called e (state m c (Serial r)) f (bit b) ≡ accepted e f (heardStep m c (serial.heard r b))
-  unfolding called takenBy bitStep
+      → called e (state m c (Serial r)) f (Bit b) ≡ heardCall m c f (serial.heard r b)
+  unfolding called takenBy
   taken-bit m c r f b fits = rw fits
 
-  quiet : (m : Memories) (c : Control) (f : List ℕ) (h : Heard) → h .received ≡ received.Nothing → accepted e f (heardStep m c h) .count ≡ 0
-  unfolding countNamed named
+  quiet : (m : Memories) (c : Control) (f : List ℕ) (h : Heard) → h .received ≡ received.Nothing → heardCall m c f h .count ≡ 0
+  unfolding performed countNamed named
   quiet m c f h is = rw is (count-nothing (c .view) (m .text))
 
   bits-counted :
@@ -130,16 +137,16 @@ module _ (e : Seen) (value : ℕ) where
   bits-counted (suc n) m c r f fits =
       let b = bits.bit n value in
       let is = taken-bit m c r f b fits in
-      let long : length (accepted e f (heardStep m c (serial.heard r b)) .frame) ≡ length f =
-      ap (λ (k : Called). length (k .frame)) (sym is) ∙ called-length e (state m c (Serial r)) f (bit b) in
+      let long : length (heardCall m c f (serial.heard r b) .frame) ≡ length f =
+      ap (λ (k : Called). length (k .frame)) (sym is) ∙ called-length e (state m c (Serial r)) f (Bit b) in
       rw is (
         quiet m c f (serial.heard r b),
-        subst (λ (k : Called). k .count ≤ 1024) is (called-count e (state m c (Serial r)) f (bit b)),
+        subst (λ (k : Called). k .count ≤ 1024) is (called-count e (state m c (Serial r)) f (Bit b)),
         bits-counted n _ _ (serial.heard r b .receiver) _ (rw long fits),
       )
 
   -- on a panel that refuses every bit, none is heard
-  module _ (s : State) (f : List ℕ) (x : ℕ) (some : eqb x 0 ≡ false) (h : (b : Bool) → called e s f (bit b) ≡ refused s f x) where
+  module _ (s : State) (f : List ℕ) (x : ℕ) (some : eqb x 0 ≡ false) (h : (b : Bool) → called e s f (Bit b) ≡ refused s f x) where
     no-counts : (n : ℕ) → bitCounts e value n s f ≡ replicate n 0
     unfolding bitCounts
     no-counts zero = refl

@@ -19,7 +19,7 @@ use Rattle.capture.specs.Capture.{Recorded, Contents, contents, passed}
 use Rattle.capture.proofs.Contents.{joinedAt, contents-of-parts, contents-stop}
 use Rattle.transcript.specs.Records.{recorded}
 use Rattle.lines.specs.Text.{Answered}
-use Rattle.transcript.specs.Replay.{Replayed, halted, answered, afterAnswer, obeyed, obeyedAll, replayed}
+use Rattle.transcript.specs.Replay.{Replayed, endless, halted, answered, afterAnswer, obeyed, obeyedAll, replayed}
 use Rattle.transcript.specs.Statements.{afterAnswers, goneOn, PartsReplayAsWhole}
 use Rattle.transcript.proofs.Refused.{recorded-length}
 
@@ -27,14 +27,14 @@ module _ (e : Seen) where
   -- a replay that came to its end goes on with more records
   abbrev goneOver : Contents → Replayed → Replayed
   goneOver c r =
-      if eqb (r .ending .number) 0 then afterAnswers (r .answers) (obeyedAll e c (r .ending .state) (r .ending .frame) (r .ending .place))
+      if eqb (r .ending .number) 0 then afterAnswers (r .answers) (obeyedAll e endless c (r .ending .state) (r .ending .frame) (r .ending .place))
       else r
 
   answer-first : (a : Answered) (c : Contents) (r : Replayed) → afterAnswer a (goneOver c r) ≡ goneOver c (afterAnswer a r)
   answer-first a c r = by (eqb (r .ending .number) 0)
     where
       more : Replayed
-      more = obeyedAll e c (r .ending .state) (r .ending .frame) (r .ending .place)
+      more = obeyedAll e endless c (r .ending .state) (r .ending .frame) (r .ending .place)
 
       by :
           (t : Bool)
@@ -45,7 +45,7 @@ module _ (e : Seen) where
 
   obeyed-joined :
       (xs : List Recorded) (c : Contents) (s : State) (f : List ℕ) (n : ℕ)
-      → obeyed e (number (c .stop)) (xs ++ c .records) s f n ≡ goneOver c (obeyed e 0 xs s f n)
+      → obeyed e (number (c .stop)) endless (xs ++ c .records) s f n ≡ goneOver c (obeyed e 0 endless xs s f n)
   unfolding obeyed
   obeyed-joined [] c s f n = refl
   obeyed-joined (r ∷ xs) c s f n = by (obeyed-joined xs c (k .state) (k .frame) (n + 1)) (eqb (k .number) 0) refl
@@ -54,19 +54,19 @@ module _ (e : Seen) where
       k = recorded e (r .kind) (r .value) s f
 
       by :
-          obeyed e (number (c .stop)) (xs ++ c .records) (k .state) (k .frame) (n + 1) ≡ goneOver c (obeyed e 0 xs (k .state) (k .frame) (n + 1))
+          obeyed e (number (c .stop)) endless (xs ++ c .records) (k .state) (k .frame) (n + 1) ≡ goneOver c (obeyed e 0 endless xs (k .state) (k .frame) (n + 1))
           → (t : Bool)
           → eqb (k .number) 0 ≡ t
-          → (if t then afterAnswer (answered (r .kind) k) (obeyed e (number (c .stop)) (xs ++ c .records) (k .state) (k .frame) (n + 1)) else halted s f n (k .number))
-          ≡ goneOver c (if t then afterAnswer (answered (r .kind) k) (obeyed e 0 xs (k .state) (k .frame) (n + 1)) else halted s f n (k .number))
+          → (if t then afterAnswer (answered (r .kind) k) (obeyed e (number (c .stop)) endless (xs ++ c .records) (k .state) (k .frame) (n + 1)) else halted s f n (k .number))
+          ≡ goneOver c (if t then afterAnswer (answered (r .kind) k) (obeyed e 0 endless xs (k .state) (k .frame) (n + 1)) else halted s f n (k .number))
       by rest true q =
           ap (afterAnswer (answered (r .kind) k)) rest
-          ∙ answer-first (answered (r .kind) k) c (obeyed e 0 xs (k .state) (k .frame) (n + 1))
+          ∙ answer-first (answered (r .kind) k) c (obeyed e 0 endless xs (k .state) (k .frame) (n + 1))
       by rest false q = rw q
 
   -- a replay of what ends in a refusal is refused
   stays-refused :
-      (last : ℕ) → eqb last 0 ≡ false → (xs : List Recorded) (s : State) (f : List ℕ) (n : ℕ) → eqb (obeyed e last xs s f n .ending .number) 0 ≡ false
+      (last : ℕ) → eqb last 0 ≡ false → (xs : List Recorded) (s : State) (f : List ℕ) (n : ℕ) → eqb (obeyed e last endless xs s f n .ending .number) 0 ≡ false
   unfolding obeyed
   stays-refused last h [] s f n = h
   stays-refused last h (r ∷ xs) s f n =
@@ -77,7 +77,7 @@ module _ (e : Seen) where
   obeyed-by-stop :
       (xs : List Recorded) (a : Answer) (c : Contents) (s : State) (f : List ℕ) (n : ℕ)
       → passed a ≡ 0
-      → obeyedAll e (joinedAt a (record { records = xs; stop = a }) c) s f n ≡ goneOver c (obeyed e (number a) xs s f n)
+      → obeyedAll e endless (joinedAt a (record { records = xs; stop = a }) c) s f n ≡ goneOver c (obeyed e (number a) endless xs s f n)
   obeyed-by-stop xs (Record kind value) c s f n h = absurd (omega arith)
   obeyed-by-stop xs End c s f n h = obeyed-joined xs c s f n
   obeyed-by-stop xs Short c s f n h = rw (stays-refused 6 refl xs s f n)
@@ -85,7 +85,7 @@ module _ (e : Seen) where
   obeyed-by-stop xs WrongKind c s f n h = rw (stays-refused 8 refl xs s f n)
   obeyed-by-stop xs WrongValue c s f n h = rw (stays-refused 9 refl xs s f n)
 
-  obeyed-length : (last : ℕ) (xs : List Recorded) (s : State) (f : List ℕ) (n : ℕ) → length (obeyed e last xs s f n .ending .frame) ≡ length f
+  obeyed-length : (last : ℕ) (xs : List Recorded) (s : State) (f : List ℕ) (n : ℕ) → length (obeyed e last endless xs s f n .ending .frame) ≡ length f
   unfolding obeyed
   obeyed-length last [] s f n = refl
   obeyed-length last (r ∷ xs) s f n =
@@ -115,10 +115,10 @@ parts-replay-as-whole e part more s f n h = by (eqb (refusalOf (length f) (lengt
     by :
         (t : Bool)
         → eqb m 0 ≡ t
-        → (if t then obeyedAll e (contents (part ++ more)) s f n else halted s f n m)
-        ≡ goneOn e more (if t then obeyedAll e x s f n else halted s f n m)
+        → (if t then obeyedAll e endless (contents (part ++ more)) s f n else halted s f n m)
+        ≡ goneOn e more (if t then obeyedAll e endless x s f n else halted s f n m)
     by true q =
-        ap (λ (c : Contents). obeyedAll e c s f n) (contents-of-parts part more h)
+        ap (λ (c : Contents). obeyedAll e endless c s f n) (contents-of-parts part more h)
         ∙ obeyed-by-stop e (x .records) (x .stop) (contents more) s f n (contents-stop part)
-        ∙ let-in-again e more f (obeyedAll e x s f n) q (obeyed-length e (number (x .stop)) (x .records) s f n)
+        ∙ let-in-again e more f (obeyedAll e endless x s f n) q (obeyed-length e (number (x .stop)) (x .records) s f n)
     by false q = rw q

@@ -1,59 +1,18 @@
 -- Laws of a record: a refused one has no effect, a frame keeps its length, and no count passes that of the frame's bytes.
-use Prim.Native.Nat.{ℕ, zero, suc, _≤_}
+use Prim.Native.Nat.{ℕ, zero, suc}
 use mathlib.Core.List.{List}
 use mathlib.Core.Path.{_≡_, refl, ap, _∙_}
-use native.Mathlib.Omega.{arith}
 use lib.Dec.{eqb}
 use lib.ListN.{length}
 use Rattle.base.specs.Bits as bits
 use Rattle.base.proofs.Choice.{either}
-use Rattle.base.proofs.Counting.{count-le}
-use Rattle.base.proofs.Painting.{painted-length}
+use Rattle.events.specs.declared.Event.{Event}
+use Rattle.events.specs.declared.Event.the-variants.{Bit}
 use Rattle.picture.specs.Picture.{Seen}
-use Rattle.picture.specs.Refusals.{refusalOf}
-use Rattle.repaint.specs.Repaint.{repainted, countNamed}
 use Rattle.lent.specs.State.{State}
-use Rattle.lent.specs.Calls.{Call, bit, Taken, otherLink, taken, takenBy, Called, refused, unlessOther, called}
+use Rattle.lent.specs.Calls.{Called, refused, called}
+use Rattle.lent.proofs.Kept.{Unmoved, called-unmoved, called-length}
 use Rattle.transcript.specs.Records.{heard, eightBits, recorded}
-
--- a call that is refused leaves what a refusal leaves
-abbrev pub Unmoved : State → List ℕ → Called → Type 0
-Unmoved s frame k = (k .number ≡ 0 → ⊥) → k ≡ refused s frame (k .number)
-
-other-unmoved : (e : Seen) (s : State) (frame : List ℕ) (t : Taken) → Unmoved s frame (unlessOther e s frame t)
-other-unmoved e s frame otherLink h = refl
-other-unmoved e s frame (taken x) h = absurd (h refl)
-
-pub called-unmoved : (e : Seen) (s : State) (frame : List ℕ) (call : Call) → Unmoved s frame (called e s frame call)
-unfolding called
-called-unmoved e s frame call =
-    either (Unmoved s frame) (eqb (refusalOf (length frame) (length (e .half)) (length (e .full))) 0)
-    (other-unmoved e s frame (takenBy (s .memories) (s .control) (s .link) call))
-    (λ h. refl)
-
-other-count : (e : Seen) (s : State) (frame : List ℕ) (t : Taken) → unlessOther e s frame t .count ≤ 1024
-unfolding countNamed
-other-count e s frame otherLink = omega arith
-other-count e s frame (taken x) = count-le 1024 _
-
-pub called-count : (e : Seen) (s : State) (frame : List ℕ) (call : Call) → called e s frame call .count ≤ 1024
-unfolding called
-called-count e s frame call =
-    either (λ (k : Called). k .count ≤ 1024) (eqb (refusalOf (length frame) (length (e .half)) (length (e .full))) 0)
-    (other-count e s frame (takenBy (s .memories) (s .control) (s .link) call))
-    (omega arith)
-
-other-length : (e : Seen) (s : State) (frame : List ℕ) (t : Taken) → length (unlessOther e s frame t .frame) ≡ length frame
-unfolding repainted
-other-length e s frame otherLink = refl
-other-length e s frame (taken x) = painted-length _ _ frame
-
-pub called-length : (e : Seen) (s : State) (frame : List ℕ) (call : Call) → length (called e s frame call .frame) ≡ length frame
-unfolding called
-called-length e s frame call =
-    either (λ (k : Called). length (k .frame) ≡ length frame) (eqb (refusalOf (length frame) (length (e .half)) (length (e .full))) 0)
-    (other-length e s frame (takenBy (s .memories) (s .control) (s .link) call))
-    refl
 
 -- what is heard is no refusal
 pub heard-accepted : (e : Seen) (value left : ℕ) (s : State) (frame : List ℕ) → heard e value left s frame .number ≡ 0
@@ -64,7 +23,7 @@ heard-accepted e value (suc left) s frame = heard-accepted e value left _ _
 pub eight-unmoved : (e : Seen) (value : ℕ) (s : State) (frame : List ℕ) → Unmoved s frame (eightBits e value s frame)
 unfolding eightBits
 eight-unmoved e value s frame =
-    either (Unmoved s frame) (eqb (called e s frame (bit (bits.bit 7 value)) .number) 0)
+    either (Unmoved s frame) (eqb (called e s frame (Bit (bits.bit 7 value)) .number) 0)
     (λ h. absurd (h (heard-accepted e value 8 s frame)))
     (λ h. refl)
 
@@ -76,22 +35,18 @@ heard-length e value (suc left) s frame = heard-length e value left _ _ ∙ call
 eight-length : (e : Seen) (value : ℕ) (s : State) (frame : List ℕ) → length (eightBits e value s frame .frame) ≡ length frame
 unfolding eightBits
 eight-length e value s frame =
-    either (λ (k : Called). length (k .frame) ≡ length frame) (eqb (called e s frame (bit (bits.bit 7 value)) .number) 0)
+    either (λ (k : Called). length (k .frame) ≡ length frame) (eqb (called e s frame (Bit (bits.bit 7 value)) .number) 0)
     (heard-length e value 8 s frame)
     refl
 
 -- what holds after every call and after eight bits holds after every record
 pub of-each :
     (P : Called → Type 0) (e : Seen) (kind value : ℕ) (s : State) (frame : List ℕ)
-    → ((call : Call) → P (called e s frame call))
+    → ((event : Event) → P (called e s frame event))
     → P (eightBits e value s frame)
     → P (recorded e kind value s frame)
 unfolding recorded
-of-each P e kind value s frame p q =
-    either P (eqb kind 0) (p _)
-    (either P (eqb kind 1) (p _)
-    (either P (eqb kind 2) (p _)
-    (either P (eqb kind 3) (p _) (either P (eqb kind 4) q (either P (eqb kind 5) (p _) (p _))))))
+of-each P e kind value s frame p q = either P (eqb kind 4) q (p _)
 
 -- earlier records stand, the refused one has no effect
 pub recorded-unmoved : (e : Seen) (kind value : ℕ) (s : State) (frame : List ℕ) → Unmoved s frame (recorded e kind value s frame)

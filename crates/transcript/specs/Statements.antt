@@ -5,23 +5,22 @@ use mathlib.Core.List.{List, [], _∷_, _++_}
 use mathlib.Core.Path.{_≡_}
 use lib.Dec.{eqb}
 use lib.ListN.{length, replicate}
-use lib.Seq.{sets}
 use Rattle.base.specs.Choice.{if_then_else_}
 use Rattle.base.specs.Bits as bits
 use Rattle.picture.specs.Picture.{Seen}
 use Rattle.lent.specs.State.{State}
-use Rattle.lent.specs.Calls.{bit, Called, called}
+use Rattle.events.specs.declared.Event.the-variants.{Bit}
+use Rattle.lent.specs.Calls.{Called, called}
 use Rattle.capture.specs.Capture.{contents}
 use Rattle.transcript.specs.Records.{eightBits}
-use Rattle.lines.specs.Text.{Answered, lines}
-use Rattle.transcript.specs.Replay.{Replayed, replayed}
-use Rattle.transcript.specs.Transcript.{Transcribed, transcribed}
+use Rattle.lines.specs.Text.{Answered}
+use Rattle.transcript.specs.Replay.{Replayed, endless, bytes, replayed}
 
 -- the counts of a value's lowest bits, as many as are left, highest first
 unfoldable pub bitCounts : Seen → ℕ → ℕ → State → List ℕ → List ℕ
 bitCounts e value zero s frame = []
 bitCounts e value (suc left) s frame =
-    let k : Called = called e s frame (bit (bits.bit left value)) in
+    let k : Called = called e s frame (Bit (bits.bit left value)) in
     k .count ∷ bitCounts e value left (k .state) (k .frame)
 
 -- of some counts all are 0 but this one, which is at most 1,024
@@ -43,7 +42,7 @@ afterAnswers before r = record { answers = before ++ r .answers; ending = r .end
 -- a replay that came to the end of its capture goes on with more of it, from where it stands; one that was refused stays
 abbrev pub goneOn : Seen → List ℕ → Replayed → Replayed
 goneOn e more r =
-    if eqb (r .ending .number) 0 then afterAnswers (r .answers) (replayed e more (r .ending .state) (r .ending .frame) (r .ending .place))
+    if eqb (r .ending .number) 0 then afterAnswers (r .answers) (replayed e endless more (r .ending .state) (r .ending .frame) (r .ending .place))
     else r
 
 -- 2. A capture may be replayed in parts, where the earlier part has whole records.
@@ -51,17 +50,12 @@ abbrev pub PartsReplayAsWhole : Type 0
 PartsReplayAsWhole =
     (e : Seen) (part more : List ℕ) (s : State) (frame : List ℕ) (place : ℕ)
     → length part % 4 ≡ 0
-    → replayed e (part ++ more) s frame place ≡ goneOn e more (replayed e part s frame place)
-
--- a replay with its lines at the beginning of a buffer, and all else in it as it was
-abbrev pub withLines : Replayed → ℕ → List ℕ → Transcribed
-withLines r place text =
-    record { ending = r .ending; text = sets text 0 (lines place (r .answers)); filled = length (lines place (r .answers)) }
+    → replayed e endless (part ++ more) s frame place ≡ goneOn e more (replayed e endless part s frame place)
 
 -- 3. With 29 bytes for each record, the longest line that there is, all of the replay is told.
 abbrev pub RoomTellsAll : Type 0
 RoomTellsAll =
-    (e : Seen) (capture : List ℕ) (s : State) (frame : List ℕ) (place : ℕ) (text : List ℕ)
-    → 29 * length (contents capture .records) ≤ length text
+    (e : Seen) (room : ℕ) (capture : List ℕ) (s : State) (frame : List ℕ) (place : ℕ)
+    → 29 * length (contents capture .records) ≤ room
     → place + length (contents capture .records) < 2 ^ 64
-    → transcribed e capture s frame place text ≡ withLines (replayed e capture s frame place) place text
+    → replayed e (bytes room) capture s frame place ≡ replayed e endless capture s frame place

@@ -6,7 +6,7 @@ mod replaying;
 mod telling;
 
 pub use replaying::replay;
-pub use telling::transcribe;
+pub use replaying::transcribe;
 
 // Where a replay stopped: the panel then, how many records were accepted, and the refusal number, 0 at the end of the capture.
 // Beside it the reply and the count of the last record accepted, 0 and 0 where there was none.
@@ -18,10 +18,23 @@ pub struct Stop {
     pub count: usize,
 }
 
-// Where a replay that writes lines stopped, and how many bytes of text it left.
+// Where a replay that writes lines stopped, how many bytes of text it left, and whether it stopped only since one more line might
+// have had no room.
 pub struct Told {
     pub panel: Panel,
     pub place: usize,
     pub number: u8,
+    pub filled: usize,
+    pub full: bool,
+}
+
+// Where the loop stopped, and all that is told of it.
+pub(crate) struct Run {
+    pub panel: Panel,
+    pub place: usize,
+    pub number: u8,
+    pub full: bool,
+    pub reply: u8,
+    pub count: usize,
     pub filled: usize,
 }

@@ -1,13 +1,14 @@
 // One record of a capture, carried out on a panel.
-use lent::Pin;
-use links::Transfer;
+use events::Event;
+use events::Pin;
+use events::Transfer;
 use panel::Outcome;
 use panel::Panel;
 ghost use mathlib.Core.Path.{_≡_};
 ghost use Rattle.picture.specs.Picture.{seen};
 ghost use Rattle.lent.specs.State.{Valid};
 ghost use Rattle.panel.specs.Handed.{stateOf, handed};
-ghost use Rattle.transcript.specs.Records.{eightBits, recorded};
+ghost use Rattle.transcript.specs.Records.{eightBits, eventOf, recorded};
 
 // Eight bits of the serial link, highest first. On the other link the first is refused, and none is heard.
 fn eight_bits(
@@ -43,6 +44,22 @@ fn eight_bits(
     }
 }
 
+// What a record of any other kind than 4 is.
+fn event_of(kind: u8, value: u8) -> Event
+    ensures { λ r. ⌜ r ≡ eventOf kind value ⌝ }
+{
+    match kind {
+        0 => Event::Transfer(Transfer::Instruct(value)),
+        1 => Event::Transfer(Transfer::Write(value)),
+        2 => Event::Transfer(Transfer::Status),
+        3 => Event::Transfer(Transfer::Read),
+        5 => Event::SelectLow,
+        _ => Event::Reset(Pin {
+            parallel: value == 1,
+        }),
+    }
+}
+
 // A record that the capture's reader let pass.
 pub(crate) fn obey(
     panel: Panel,
@@ -57,21 +74,8 @@ pub(crate) fn obey(
     ensures { λ r. ⌜ handed r (now (frame .exit)) ≡ recorded (seen half full phase) kind value (stateOf panel) (now (frame .entry)) ⌝ }
     ensures valid { λ r. ⌜ Valid (stateOf (r .panel)) ⌝ }
 {
-    match kind {
-        0 => panel.transfer(Transfer::Instruct(value), frame, half, full, phase),
-        1 => panel.transfer(Transfer::Write(value), frame, half, full, phase),
-        2 => panel.transfer(Transfer::Status, frame, half, full, phase),
-        3 => panel.transfer(Transfer::Read, frame, half, full, phase),
-        4 => eight_bits(panel, value, frame, half, full, phase),
-        5 => panel.select_low(frame, half, full, phase),
-        _ => panel.reset(
-            Pin {
-                parallel: value == 1,
-            },
-            frame,
-            half,
-            full,
-            phase,
-        ),
+    if kind == 4 {
+        return eight_bits(panel, value, frame, half, full, phase);
     }
+    panel.call(event_of(kind, value), frame, half, full, phase)
 }

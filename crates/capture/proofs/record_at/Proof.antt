@@ -1,4 +1,4 @@
--- A walk of the MIR by hand: the `Reader` that one call returns is held in a local and passed to the next. Of `over` and `read` the proof knows their contracts alone.
+-- A walk of the MIR by hand: the `Reader` that one call returns is held in a local and passed to the next. Of `over` and `step` the proof knows their contracts alone.
 -- In a local of a body MIR erases the lifetime of the struct's type, so its value is shown to have the type at `erased`: what the struct owns does not name the lifetime.
 use mathlib.Core.Path.{_≡_, refl, ap, _∙_}
 use Prim.Native.Nat.{_<_, _^_}
@@ -21,18 +21,17 @@ use denote.Builtin.{u8, usize}
 use denote.Ref.{NamedLft}
 use denote.Slice.{ShrSlice, shr-slice-lawful, shr-slice-copy}
 use denote.Steps.{owned, nothing}
-use denote.Enum.Laws as EL
 use denote.Struct.Laws as LL
 use denote.Triple.Statement.{Triple}
 use denote.Triple.Table.{cited}
 use denote.Triple.Walked.{says, ends-at}
-use Rattle.capture.specs.Reader.{found}
+use Rattle.capture.specs.Reader.{stepped}
 use Rattle.capture.specs.declared.Reader.{Reader}
-use Rattle.capture.specs.declared.Answer.{Answer}
+use Rattle.capture.specs.declared.Step.{Step}
 use Rattle.capture.proofs.Reader as T
 use Rattle.capture.proofs.Reader.Laws as T′
-use Rattle.capture.proofs.Answer as S
-use Rattle.capture.proofs.Answer.Laws as S′
+use Rattle.capture.proofs.Step as S
+use Rattle.capture.proofs.Step.Laws as S′
 use Rattle.capture.proofs.Held.{ReaderOf, sliceAndNumber}
 use Rattle.capture.proofs.Called.{calls-told}
 use Rattle.capture.proofs.Parts as parts
@@ -41,8 +40,8 @@ use Rattle.capture.proofs.Method as method
 use Rattle.capture.proofs.Method.{OnReader}
 use Rattle.capture.proofs.Reader.over.Symbol as over
 use Rattle.capture.proofs.Reader.over.Met as over-thm
-use Rattle.capture.proofs.Reader.read.Symbol as read
-use Rattle.capture.proofs.Reader.read.Met as read-thm
+use Rattle.capture.proofs.Reader.step.Symbol as step
+use Rattle.capture.proofs.Reader.step.Met as step-thm
 use Rattle.capture.proofs.record_at as at
 use Rattle.capture.proofs.record_at.Key as key
 use Rattle.capture.proofs.record_at.Statement as stated
@@ -55,12 +54,12 @@ Made κ = ReaderOf (κ, tt)
 abbrev made : Claim Made
 made κ d r = r ≡ d
 
--- what `read` answers, and `record_at` with it
+-- what `step` answers, and `record_at` with it
 abbrev Read : Lft → RattleType
 Read κ = S.the-row
 
 abbrev claim : Claim Read
-claim κ d t = t ≡ found d
+claim κ d t = t ≡ stepped d
 
 module _ {M : Type 1} (𝓤 : URA M) (H : Heap 𝓤) (A : Atoms 𝓤) (W : Given 𝓤 H A) (κ : Lft) (q : Share) (d : Reader) (fits : d .at < 2 ^ 64) where
   -- the struct's lifetime as a local of a body has it
@@ -78,19 +77,19 @@ module _ {M : Type 1} (𝓤 : URA M) (H : Heap 𝓤) (A : Atoms 𝓤) (W : Given
       move ! (0 ∷ 2 ∷ []) $ fjoin ! $ move ! (2 ∷ 0 ∷ []) $
       use2 W (raw (OnParts Made made 𝓤 H A .pre (parts.to Made made 𝓤 H A κ q d))) (qed W ((‵ (flft κ q) ⊛ ‵ ftrue) ∷ ‵ (owns (ShrSlice (named 0) κ u8 ∷ usize ∷ []) (d .capture, (d .at, tt)) (sliceAndNumber d)) ∷ []) ∵ join ! $ frame ! $ done !) $ frame ! $ done !
 
-  -- what the call of `read` asks, at the struct r with the machine value u
-  goes-read : (r : Reader) (u : Val) → ent 𝓤 (⋆ 𝓤 H A (‵ (Made κ .own r (u ∷ [])) ∷ (‵ (flft κ q) ⊛ ‵ ftrue) ∷ [])) (OnReader Read claim 𝓤 H A .pre (method.to Read claim 𝓤 H A κ q r u))
-  goes-read r u = qed W (‵ (Made κ .own r (u ∷ [])) ∷ (‵ (flft κ q) ⊛ ‵ ftrue) ∷ []) ∵ nothing ! $ move ! (1 ∷ 0 ∷ []) $ fjoin ! $ move ! (1 ∷ 0 ∷ []) $ join ! $ frame ! $ done !
+  -- what the call of `step` asks, at the struct r with the machine value u
+  goes-step : (r : Reader) (u : Val) → ent 𝓤 (⋆ 𝓤 H A (‵ (Made κ .own r (u ∷ [])) ∷ (‵ (flft κ q) ⊛ ‵ ftrue) ∷ [])) (OnReader Read claim 𝓤 H A .pre (method.to Read claim 𝓤 H A κ q r u))
+  goes-step r u = qed W (‵ (Made κ .own r (u ∷ [])) ∷ (‵ (flft κ q) ⊛ ‵ ftrue) ∷ []) ∵ nothing ! $ move ! (1 ∷ 0 ∷ []) $ fjoin ! $ move ! (1 ∷ 0 ∷ []) $ join ! $ frame ! $ done !
 
-  exits : (t : Answer) (u : Val) → t ≡ found d → ent 𝓤 (⋆ 𝓤 H A (‵ (S.the-row .own t (u ∷ [])) ∷ (‵ (flft κ q) ⊛ ‵ ftrue) ∷ ‵ Own ∷ [])) (Post Read claim 𝓤 H A κ q d u)
+  exits : (t : Step) (u : Val) → t ≡ stepped d → ent 𝓤 (⋆ 𝓤 H A (‵ (S.the-row .own t (u ∷ [])) ∷ (‵ (flft κ q) ⊛ ‵ ftrue) ∷ ‵ Own ∷ [])) (Post Read claim 𝓤 H A κ q d u)
   exits t u e =
       qed W (‵ (S.the-row .own t (u ∷ [])) ∷ (‵ (flft κ q) ⊛ ‵ ftrue) ∷ ‵ Own ∷ []) ∵
       suffices ! _ (ends-at 𝓤 H A (parts.ended Read) (parts.stayed Read) (parts.clauses Read claim 𝓤) W (parts.to Read claim 𝓤 H A κ q d) u t (tt, (tt, tt)) (tt, (tt, tt))) $ says ! e $
       move ! (1 ∷ []) $ frame ! $ nothing ! $ owned ! usize (Is usize) (uint-makes 𝓤 H A W w64) (d .at) _ (refl, fits) $ fjoin ! $ move ! (2 ∷ 0 ∷ []) $ fjoin ! $ frame ! $ done !
 
-  walk : (C : Calls 𝓤 H) (Λ : Loops 𝓤 H) → FmC 𝓤 H (W .laws) C → Triple 𝓤 (C over.name) (OnParts Made made 𝓤 H A) → Triple 𝓤 (C read.name) (OnReader Read claim 𝓤 H A) → Is (ShrSlice (named 0) κ u8) (d .capture) (sliceAndNumber d .0)
+  walk : (C : Calls 𝓤 H) (Λ : Loops 𝓤 H) → FmC 𝓤 H (W .laws) C → Triple 𝓤 (C over.name) (OnParts Made made 𝓤 H A) → Triple 𝓤 (C step.name) (OnReader Read claim 𝓤 H A) → Is (ShrSlice (named 0) κ u8) (d .capture) (sliceAndNumber d .0)
       → ent 𝓤 (Pre Read claim 𝓤 H A κ q d) (WpFn 𝓤 H C Λ code.function (OnParts Read claim 𝓤 H A .args (parts.to Read claim 𝓤 H A κ q d)) (Post Read claim 𝓤 H A κ q d))
-  walk C Λ fm over-met read-met given =
+  walk C Λ fm over-met step-met given =
       qed W (raw (Pre Read claim 𝓤 H A κ q d) ∷ []) ∵ enter ! C Λ code.function (OnParts Read claim 𝓤 H A .args (parts.to Read claim 𝓤 H A κ q d)) _ $
       alloc1 ! (λ l₀. alloc1 ! (λ l₁. alloc1 ! (λ l₂. alloc1 ! (λ l₃. alloc0 ! $ params1 ! $ pass1 ! (init ! 4 refl (shr-slice-lawful 𝓤 H A W (named 0) κ u8 .typed (d .capture) _ given .0)) $ pass1 ! (init ! 2 refl (tt, record { fits = fits })) $ pass0 ! $
       -- [room for _3; …; _2; …; _1; …; room for _0; …; what is had on entry]
@@ -98,12 +97,12 @@ module _ {M : Type 1} (𝓤 : URA M) (H : Heap 𝓤) (A : Atoms 𝓤) (W : Given
       calls-told ! fm (parts.ended Made) (parts.clauses Made made 𝓤) over-met (parts.to Made made 𝓤 H A κ q d) (made κ d) (λ r e. id⊢ 𝓤 _) (and-then ! (load ! (from ! (stop !)) (look ! 6 refl)) (and-then ! (load ! (from ! (stop !)) (look ! 4 refl)) (no-more !))) (λ u r e is.
       -- [what the struct owns; the token; what the slice owns; room for _3; …; _2; …; _1; …; room for _0; …]
       land ! (from ! (stop !)) (init ! 3 refl (LL.lawful (T.the-type αᵉ) (T′.the-laws αᵉ) 𝓤 H A W .typed r _ is .0)) $
-      use2 W (raw (OnReader Read claim 𝓤 H A .pre (method.to Read claim 𝓤 H A κ q r u))) (goes-read r u) $
-      calls-told ! fm (method.ended Read) (method.clauses Read claim 𝓤) read-met (method.to Read claim 𝓤 H A κ q r u) (claim κ r) (λ t e. id⊢ 𝓤 _) (and-then ! (load ! (from ! (stop !)) (look ! 2 refl)) (no-more !)) (λ u′ t e′ is′.
+      use2 W (raw (OnReader Read claim 𝓤 H A .pre (method.to Read claim 𝓤 H A κ q r u))) (goes-step r u) $
+      calls-told ! fm (method.ended Read) (method.clauses Read claim 𝓤) step-met (method.to Read claim 𝓤 H A κ q r u) (claim κ r) (λ t e. id⊢ 𝓤 _) (and-then ! (load ! (from ! (stop !)) (look ! 2 refl)) (no-more !)) (λ u′ t e′ is′.
       -- [the result; the token; what the slice owns; _3; …; _2; …; _1; …; room for _0; …]
-      land ! (from ! (stop !)) (init ! 9 refl (EL.lawful S.the-type S′.the-laws 𝓤 H A W tt .typed t _ is′ .0)) $
+      land ! (from ! (stop !)) (init ! 9 refl (LL.lawful S.the-type S′.the-laws 𝓤 H A W .typed t _ is′ .0)) $
       returns ! (look ! 9 refl) $ forget ! 3 refl $ forget ! 5 refl $ forget ! 7 refl $ forget ! 9 refl $
-      move ! (9 ∷ 10 ∷ []) $ free1 ! $ move ! (7 ∷ 8 ∷ []) $ free1 ! $ move ! (5 ∷ 6 ∷ []) $ free1 ! $ move ! (3 ∷ 4 ∷ []) $ free1 ! $ free0 ! $ by ! (exits t u′ (e′ ∙ ap found e))))))))
+      move ! (9 ∷ 10 ∷ []) $ free1 ! $ move ! (7 ∷ 8 ∷ []) $ free1 ! $ move ! (5 ∷ 6 ∷ []) $ free1 ! $ move ! (3 ∷ 4 ∷ []) $ free1 ! $ free0 ! $ by ! (exits t u′ (e′ ∙ ap stepped e))))))))
 
 pub record-at-spec : {M : Type 1} → stated.statement M
 unfolding code.routine
@@ -112,4 +111,4 @@ record-at-spec 𝓤 H 𝓜 𝓖 𝓡 =
     code.function code.env key.name (code.unfolded 𝓤 H 𝓜 𝓡)
     (λ fm κ q d is fits. walk 𝓤 H (𝓖 .A) (givenOf 𝓤 H 𝓜 𝓖) κ q d fits (tables 𝓤 H 𝓜 𝓡 code.env .C) (tables 𝓤 H 𝓜 𝓡 code.env .Λ) fm
     (cited 𝓤 H (OnParts Made made 𝓤 H (𝓖 .A)) 𝓜 𝓡 code.env over.name over.routine code.calls-capture·Reader·over (over-thm.met 𝓤 H 𝓜 𝓖 𝓡))
-    (cited 𝓤 H (OnReader Read claim 𝓤 H (𝓖 .A)) 𝓜 𝓡 code.env read.name read.routine code.calls-capture·Reader·read (read-thm.met 𝓤 H 𝓜 𝓖 𝓡)) is)
+    (cited 𝓤 H (OnReader Read claim 𝓤 H (𝓖 .A)) 𝓜 𝓡 code.env step.name step.routine code.calls-capture·Reader·step (step-thm.met 𝓤 H 𝓜 𝓖 𝓡)) is)

@@ -3,7 +3,6 @@ use Prim.Native.Nat.{_-_, _^_}
 use mathlib.Core.Path.{_≡_}
 use native.Mathlib.Omega.{arith}
 use borrow.Author.Needs.{needs}
-use borrow.Author.Tests.{not-false}
 use Rattle.lent.specs.State.{Valid}
 use Rattle.panel.specs.Handed.{stateOf}
 use Rattle.replay.proofs.main.Statement.{statement}
@@ -28,11 +27,10 @@ main-spec =
     (λ c κs. search needs)
     (λ c. search needs)
     (λ c. search needs)
-    (λ c κs. search needs)
     (λ c. search needs)
     (λ c κs. search needs)
     (λ c. search needs)
     (λ c κs. search needs)
     (λ c. search needs)
-    (λ c. omega (arith, c .before .before .before .before .all-taken .ensures (not-false _ (c .before .before .before .if4 .left))))
+    (λ c. omega (arith, c .before .before .before .before .before .before .before .before .before .part .ensures .1 (c .before .before .before .before .before .if2 .left) (c .before .before .before .if4 .left)))
     (λ c. search needs))

@@ -1,7 +1,8 @@
--- The region is painted and counted.
+-- The region is painted and counted, and the answer goes back.
 use borrow.Author.Needs.{needs}
 use mathlib.Core.Path.{ap}
 use Rattle.controller.specs.Memories.{memories}
+use Rattle.links.specs.Taken.{replied}
 use Rattle.repaint.specs.Repaint.{Painting}
 use Rattle.lent.specs.State.{state}
 use Rattle.lent.proofs.calls.show.Statement.{statement}
@@ -12,5 +13,7 @@ show-spec =
     tie.close
     (tie.spec
     (λ c κs. search needs)
+    (λ c κs. let p = c .before .before .before .before .before .before .pre in (rw (c .before .look .ensures) (record { scroll = p .0 .scroll; shift = p .0 .shift }), p .1, p .2, p .3))
+    (λ c κs. search needs)
     (λ c. search needs)
-    (λ c. ap (λ (p : Painting). record { state = state (memories (c .before .before .before .before .before .before .before .before .before .args .text .now) (c .before .before .before .before .before .before .before .before .before .args .glyph .now) (c .before .before .before .before .before .before .before .before .before .args .graphic .now)) (c .before .before .before .before .before .before .before .before .before .args .step .done .control) (c .before .before .before .before .before .before .before .before .before .args .step .link); number = 0; reply = c .before .before .before .before .before .before .before .before .before .args .step .done .reply; count = p .count; frame = p .frame }) (c .before .before .paint .ensures .0)))
+    (λ c. let a = c .before .before .before .before .before .before .before .before .before .before .args in rw (c .reply .ensures) (ap (λ (p : Painting). record { state = state (memories (a .text .now) (a .glyph .now) (a .graphic .now)) (a .done .control) (replied (a .rest) (a .done .reply) .link); number = 0; reply = replied (a .rest) (a .done .reply) .reply; count = p .count; frame = p .frame }) (rw (c .before .before .before .before .before .look .ensures) at (c .before .before .before .paint .ensures .0)))))

@@ -14,12 +14,8 @@ write-half-spec =
     (λ c. search needs)
     (λ c κs. search needs)
     (λ c κs. search needs)
-    (λ c. rw (
-      c .writing .ensures,
-      c .before .joined .ensures,
-      c .before .before .before .before .pairing .given .1,
-      c .before .before .if1 .taken,
-    ))
+    (λ c κs. search needs)
+    (λ c. rw (c .acts .ensures, c .before .writing .ensures, c .before .before .joined .ensures, c .before .before .before .before .before .pairing .given .1, c .before .before .before .if1 .taken))
     (λ c κs. search needs)
     (λ c. search needs)
     (λ c κs. search needs)

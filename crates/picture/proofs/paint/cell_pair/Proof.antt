@@ -9,5 +9,5 @@ cell-pair-spec =
     tie.close
     (tie.spec
     (λ c κs. search needs)
-    (λ c κs. (rw (c .strip .ensures) (strip-on-glass _ _ _), search needs, search needs))
+    (λ c κs. (rw (c .strip .ensures) (strip-on-glass _ _), search needs, search needs))
     (λ c. rw (c .cell-row .ensures, c .before .strip .ensures) (strip-pair _ _ _ _ _)))

@@ -12,7 +12,5 @@ effects-spec =
     (λ c κs. search needs)
     (λ c κs. search needs)
     (λ c κs. search needs)
-    (λ c κs. search needs)
     (λ c. search needs)
-    (λ c κs. search needs)
-    (λ c. rw (c .off-or-standby .ensures, c .before .both4 .ensures, c .before .before .both3 .ensures, c .before .before .before .both2 .ensures, c .before .before .before .before .both .ensures)))
+    (λ c. rw (c .both3 .ensures, c .before .both2 .ensures, c .before .before .both .ensures)))

@@ -1,35 +1,30 @@
--- Row by row.
-use Prim.Native.Nat.{_≤_, _*_, _-_}
+-- Not at all, or on the rows that show its line.
 use borrow.Author.Needs.{needs}
-use lib.ListN.{length}
-use mathlib.Core.Path.{_≡_, _∙_, sym}
 use native.Mathlib.Omega.{arith}
-use Rattle.base.specs.Painting.{between}
+use Prim.Native.Nat.{ℕ, _+_, _*_, _-_, _/_, _%_, _≤_, _<_}
+use lib.ListN.{length}
+use mathlib.Core.Path.{_≡_, refl, sym, ap, _∙_}
+use Rattle.base.specs.Painting.{painted, between}
+use Rattle.base.proofs.Lists.{length-upto}
 use Rattle.controller.specs.Memories.{memories}
-use Rattle.controller.specs.Named.{inCell}
-use Rattle.picture.specs.Picture.{byteAt, atPlace}
-use Rattle.repaint.specs.Repaint.{painting, paints}
-use Rattle.repaint.proofs.Paintings.{paints-le, paints-length, paints-begin, rows-turn, rows-end}
+use Rattle.repaint.proofs.CellTurns.{runs, word-hidden, word-painted}
 use Rattle.repaint.proofs.cells.paint_word.Statement.{statement}
 use Rattle.repaint.proofs.cells.paint_word.Tie as tie
-
-abbrev Inv-loop : tie.InvT-loop
-Inv-loop text glyph graphic control word frame₀ half full phase count₀ row₀ frame count row = (row ≤ 32) × (length frame ≡ 1024) × (painting count frame ≡ paints (between 0 (32 * row) (atPlace (inCell (control .view) word))) (atPlace (byteAt (record { half = half; full = full; phase = phase }) (memories text glyph graphic) control)) frame₀)
-
-abbrev μ-loop : tie.MeasureT-loop
-μ-loop text glyph graphic control word frame₀ half full phase count₀ row₀ frame count row = 32 - row
 
 pub paint-word-spec : {M : Type 1} → statement M
 paint-word-spec =
     tie.close
     (tie.spec
-    Inv-loop
-    μ-loop
-    (λ c. (omega arith, c .before .before .before .pre .2, paints-begin _ _ _ 0))
+    (λ c. search needs)
     (λ c κs. search needs)
-    (λ c. omega (arith, paints-le _ _ _ _ _ (c .before .before .before .before .before .loop .inv .2), paints-le _ _ _ _ _ (c .before .before .paint-if-shown .ensures)))
+    (λ c κs. search needs)
+    (λ c. let a = c .before .before .before .before .before .before .before .args in let p = c .before .before .before .before .before .before .before .pre in word-hidden (record { half = a .half .now; full = a .full .now }) (memories (a .text .now) (a .glyph .now) (a .graphic .now)) (a .look) (a .word) (p .0) (p .1) (a .frame .now) (p .2) _ (sym (c .before .run-end .ensures) ∙ c .if1 .taken))
+    (λ c. search needs)
+    (λ c κs. search needs)
     (λ c. search needs)
     (λ c. search needs)
-    (λ c. (omega arith, paints-length _ _ _ _ _ (c .before .before .paint-if-shown .ensures) ∙ c .before .before .before .before .before .loop .inv .1, rows-turn _ _ _ _ _ _ _ _ (c .before .before .before .before .before .loop .inv .2) (c .before .before .paint-if-shown .ensures)))
-    (λ c. c .before .loop .inv .1 ∙ sym (c .before .before .before .before .before .pre .2))
-    (λ c. rows-end _ _ _ _ _ _ (omega arith) (c .before .before .before .before .before .pre .2) (c .before .loop .inv .2)))
+    (λ c. search needs)
+    (λ c. search needs)
+    (λ c κs. let a = c .before .before .before .before .before .before .before .before .before .before .before .before .before .args in let p = c .before .before .before .before .before .before .before .before .before .before .before .before .before .pre in let l = p .1 in let n = runs (a .look .view .scroll) (a .word / 16) 0 (p .0 .scroll) (omega arith) (omega arith) in let x = c .before .before .before .before .before .before .before .before .run-first .ensures in let y = c .before .before .before .before .before .before .before .run-end .ensures in (omega arith, omega arith, omega arith, ap length (c .before .before .before .before .lay-tile .ensures) ∙ length-upto 32 _, p .2))
+    (λ c. search needs)
+    (λ c. let a = c .before .before .before .before .before .before .before .before .before .before .before .before .before .before .before .before .args in let p = c .before .before .before .before .before .before .before .before .before .before .before .before .before .before .before .before .pre in word-painted (record { half = a .half .now; full = a .full .now }) (memories (a .text .now) (a .glyph .now) (a .graphic .now)) (a .look) (a .word) (p .0) (p .1) (a .frame .now) (p .2) _ _ _ (c .before .before .before .before .before .before .before .lay-tile .ensures) (rw (c .before .before .before .before .before .before .before .before .before .before .before .run-first .ensures, c .before .before .before .before .before .before .before .before .before .before .run-end .ensures) at (c .before .before .paint-rows .ensures))))

@@ -1,0 +1,25 @@
+-- By the transfer.
+use borrow.Author.Needs.{needs}
+use mathlib.Core.Path.{ap}
+use Rattle.controller.specs.Memories.{memories}
+use Rattle.controller.specs.Transfers.{acted, withText, carriedOut}
+use Rattle.controller.proofs.transfers.carry_out.Statement.{statement}
+use Rattle.controller.proofs.transfers.carry_out.Tie as tie
+
+pub carry-out-spec : {M : Type 1} → statement M
+unfolding carriedOut
+carry-out-spec =
+    tie.close
+    (tie.spec
+    (λ c. search needs)
+    (λ c κs. search needs)
+    (λ c. search needs)
+    (λ c κs. search needs)
+    (λ c. search needs)
+    (λ c κs. search needs)
+    (λ c. search needs)
+    (λ c κs. search needs)
+    (λ c. rw (c .before .before .before .transfer .given .1) (ap (withText (memories (c .before .before .before .before .before .args .text .now) (c .before .before .before .before .before .args .glyph .now) (c .before .before .before .before .before .args .graphic .now))) (c .execute .ensures .0)))
+    (λ c. rw (c .before .before .before .before .before .transfer2 .given .1) (c .write .ensures .0))
+    (λ c. rw (c .before .enum-told .given .1) (ap (acted (memories (c .before .before .before .args .text .now) (c .before .before .before .args .glyph .now) (c .before .before .before .args .graphic .now))) (c .status .ensures)))
+    (λ c. rw (c .before .before .before .before .enum-told2 .given .1) (ap (acted (memories (c .before .before .before .before .before .before .args .text .now) (c .before .before .before .before .before .before .args .glyph .now) (c .before .before .before .before .before .before .args .graphic .now))) (c .read .ensures .0))))

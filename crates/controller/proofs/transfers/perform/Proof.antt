@@ -1,0 +1,19 @@
+-- By the deed.
+use borrow.Author.Needs.{needs}
+use Rattle.controller.specs.Transfers.{performed}
+use Rattle.controller.proofs.transfers.perform.Statement.{statement}
+use Rattle.controller.proofs.transfers.perform.Tie as tie
+
+pub perform-spec : {M : Type 1} → statement M
+unfolding performed
+perform-spec =
+    tie.close
+    (tie.spec
+    (λ c. search needs)
+    (λ c. search needs)
+    (λ c κs. search needs)
+    (λ c. search needs)
+    (λ c κs. search needs)
+    (λ c. rw (c .enum-told .given .1))
+    (λ c. rw (c .before .before .before .before .before .deed .given .1) (c .carry-out .ensures))
+    (λ c. rw (c .before .before .before .before .enum-told2 .given .1) (c .restart .ensures)))

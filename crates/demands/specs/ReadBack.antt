@@ -1,0 +1,71 @@
+-- Document 01, "Panel readings to be proved", cases 2 to 6 and 8 for every address and every two bytes: what is written is read back, and
+-- status tells the counter. Proved in proofs/, as `read-back`.
+use Prim.Native.Nat.{ℕ, _+_, _%_, _<_}
+use mathlib.Core.Bool.{true, false}
+use mathlib.Core.List.{List, [], _∷_, _++_, map}
+use mathlib.Core.Path.{_≡_}
+use lib.ListN.{length, replicate}
+use Rattle.controller.specs.declared.Waiting.the-variants.{Nothing}
+use Rattle.controller.specs.Instructions.{stepped}
+use Rattle.events.specs.declared.Event.{Event}
+use Rattle.picture.specs.Picture.{Seen}
+use Rattle.lent.specs.State.{State, Valid}
+use Rattle.lent.specs.Calls.{Fits}
+use Rattle.sequences.specs.Wires.{answers}
+use Rattle.demands.specs.Demand1.{isSerial}
+use Rattle.demands.specs.Readings.{instruct, write, status, read}
+
+-- what calls reply, in their order
+abbrev pub repliesTo : Seen → State → List ℕ → List Event → List ℕ
+repliesTo e s frame calls = map (λ k. k .reply) (answers e s frame calls)
+
+-- the instructions that set an address: of text (80h + a), of glyph memory (40h + a), of graphic memory (80h + row, 80h + column)
+abbrev pub toText : ℕ → List Event
+toText a = instruct (0x80 + a) ∷ []
+
+abbrev pub toGlyph : ℕ → List Event
+toGlyph a = instruct (0x40 + a) ∷ []
+
+abbrev pub toGraphic : ℕ → ℕ → List Event
+toGraphic row column = instruct (0x80 + row) ∷ instruct (0x80 + column) ∷ []
+
+-- there: the address, two data writes, status; and back: the address, and three data reads
+abbrev pub thereAndBack : List Event → ℕ → ℕ → List Event
+thereAndBack address b c = address ++ (write b ∷ write c ∷ status ∷ (address ++ (read ∷ read ∷ read ∷ [])))
+
+-- instructions and writes reply 0, status the counter; of the reads the first, which is a dummy, 0, and the others the two bytes
+abbrev pub bothRead : List Event → ℕ → ℕ → ℕ → List ℕ
+bothRead address counter b c = replicate (length address) 0 ++ (0 ∷ 0 ∷ counter ∷ (replicate (length address) 0 ++ (0 ∷ b ∷ c ∷ [])))
+
+-- a valid state on the parallel link with DL = 1, and frame and fonts that fit
+pub record TakesBytes (e : Seen) (s : State) (frame : List ℕ) : Type 0 where
+  pub valid : Valid s
+  pub fits : Fits e frame
+  pub parallel : isSerial (s .link) ≡ false
+  pub wide : s .control .function .dl ≡ true
+
+pub record ReadBack : Type 0 where
+  -- text: with RE = 0; the counter steps by I/D
+  pub text :
+      (e : Seen) (s : State) (frame : List ℕ) (a b c : ℕ)
+      → TakesBytes e s frame
+      → s .control .function .re ≡ false
+      → a < 64
+      → repliesTo e s frame (thereAndBack (toText a) b c) ≡ bothRead (toText a) (stepped (s .control .entry .id) a) b c
+  -- glyph memory: with RE = 0 and SR = 0
+  pub glyph :
+      (e : Seen) (s : State) (frame : List ℕ) (a b c : ℕ)
+      → TakesBytes e s frame
+      → s .control .function .re ≡ false
+      → s .control .sr ≡ false
+      → a < 64
+      → repliesTo e s frame (thereAndBack (toGlyph a) b c) ≡ bothRead (toGlyph a) (stepped (s .control .entry .id) a) b c
+  -- graphic memory: with RE = 1, where no row waits for its column; the counter steps to the right
+  pub graphic :
+      (e : Seen) (s : State) (frame : List ℕ) (row column b c : ℕ)
+      → TakesBytes e s frame
+      → s .control .function .re ≡ true
+      → s .control .place .waiting ≡ Nothing
+      → row < 64
+      → column < 16
+      → repliesTo e s frame (thereAndBack (toGraphic row column) b c) ≡ bothRead (toGraphic row column) ((column + 1) % 16) b c

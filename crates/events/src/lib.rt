@@ -1,0 +1,30 @@
+// What comes to the panel, and what of it reaches the controller.
+
+// A transfer on the parallel connector, a write with what it puts on the wires. A register of `false` means instructions
+// and status, `true` means data.
+pub enum Transfer {
+    Instruct(u8),
+    Write(u8),
+    Status,
+    Read,
+}
+
+// The interface pin, which reset takes.
+pub struct Pin {
+    pub parallel: bool,
+}
+
+// What comes to the panel: a transfer of the parallel link, a bit of the serial one with chip select high, chip select low, or reset.
+pub enum Event {
+    Transfer(Transfer),
+    Bit(bool),
+    SelectLow,
+    Reset(Pin),
+}
+
+// What of an event reaches the controller.
+pub enum Deed {
+    Nothing,
+    Whole(Transfer),
+    Fresh(Pin),
+}

@@ -1,0 +1,139 @@
+// All sixteen rows of a cell at once: its tile, 32 bytes, two to a row. Sixteen bytes are read before one of them is stored, so that
+// the compiler may move them together whatever the slices are.
+use crate::Content;
+use crate::dots::row_dots;
+ghost use mathlib.Core.Path.{_≡_};
+ghost use Prim.Native.Nat.{_+_, _*_, _-_, _/_, _%_, _<_, _≤_};
+ghost use lib.ListN.{length, getD};
+ghost use Rattle.base.specs.Lists.{upto};
+ghost use Rattle.base.specs.Painting.{painted, everywhere, between};
+ghost use mathlib.Core.Bool.{_&&_};
+ghost use Rattle.glyph.specs.Dots.{Inside, hasHalf};
+ghost use Rattle.glyph.specs.Tiles.{tileDots, beside};
+ghost use Rattle.glyph.specs.declared.Content.the-variants.{Halves};
+
+// Sixteen bytes that lie together.
+fn taken(from: &[u8], at: usize) -> [u8; 16]
+    requires { ⌜ at + 16 ≤ length (now from) ⌝ }
+    ensures { λ r. ⌜ r ≡ upto 16 (λ i. getD (now (from .entry)) (at + i) 0) ⌝ }
+{
+    let mut block = [0u8; 16];
+    let mut i: usize = 0;
+    while i < 16 {
+        block[i] = from[at + i];
+        i += 1;
+    }
+    block
+}
+
+fn store(tiles: &mut [u8], to: usize, block: [u8; 16])
+    requires { ⌜ to + 16 ≤ length (now tiles) ⌝ }
+    ensures { λ _. ⌜ now (tiles .exit) ≡ painted (between to (to + 16) everywhere) (λ i. getD block (i - to) 0) (now (tiles .entry)) ⌝ }
+{
+    let mut i: usize = 0;
+    while i < 16 {
+        tiles[to + i] = block[i];
+        i += 1;
+    }
+}
+
+// Thirty-two bytes that lie together in a font or in glyph memory.
+fn lay_block(tiles: &mut [u8], to: usize, from: &[u8], at: usize)
+    requires { ⌜ (to + 32 ≤ length (now tiles)) × (at + 32 ≤ length (now from)) ⌝ }
+    ensures { λ _. ⌜ now (tiles .exit) ≡ painted (between to (to + 32) everywhere) (λ i. getD (now (from .entry)) (at + (i - to)) 0) (now (tiles .entry)) ⌝ }
+{
+    store(tiles, to, taken(from, at));
+    store(tiles, to + 16, taken(from, at + 16));
+}
+
+// Two columns of sixteen bytes side by side.
+fn store_beside(tiles: &mut [u8], to: usize, left: [u8; 16], right: [u8; 16])
+    requires { ⌜ to + 32 ≤ length (now tiles) ⌝ }
+    ensures { λ _. ⌜ now (tiles .exit) ≡ painted (between to (to + 32) everywhere) (λ i. beside left right (i - to)) (now (tiles .entry)) ⌝ }
+{
+    let mut y: usize = 0;
+    while y < 16 {
+        tiles[to + 2 * y] = left[y];
+        tiles[to + 2 * y + 1] = right[y];
+        y += 1;
+    }
+}
+
+// Any content, row by row.
+fn lay_rows(
+    content: Content,
+    tiles: &mut [u8],
+    to: usize,
+    glyph: &[u8; 128],
+    half: &[u8],
+    full: &[u8],
+)
+    requires { ⌜ (to + 32 ≤ length (now tiles)) × (length (now half) ≡ 2048) × Inside content (length (now full)) ⌝ }
+    ensures { λ _. ⌜ now (tiles .exit) ≡ painted (between to (to + 32) everywhere) (λ i. tileDots (now (half .entry)) (now (full .entry)) (now (glyph .entry)) content (i - to)) (now (tiles .entry)) ⌝ }
+{
+    let mut y: usize = 0;
+    while y < 16 {
+        let dots = row_dots(content, y, glyph, half, full);
+        tiles[to + 2 * y] = dots.left;
+        tiles[to + 2 * y + 1] = dots.right;
+        y += 1;
+    }
+}
+
+// Whether a code has a half glyph.
+fn shown(code: u8) -> bool
+    ensures { λ r. ⌜ r ≡ hasHalf code ⌝ }
+{
+    if code < 0x02 {
+        return false;
+    }
+    code <= 0x7F
+}
+
+fn both_shown(high: u8, low: u8) -> bool
+    ensures { λ r. ⌜ r ≡ (hasHalf high && hasHalf low) ⌝ }
+{
+    if shown(high) { shown(low) } else { false }
+}
+
+// Two half glyphs; where one of them is blank, row by row.
+fn lay_halves(
+    high: u8,
+    low: u8,
+    tiles: &mut [u8],
+    to: usize,
+    glyph: &[u8; 128],
+    half: &[u8],
+    full: &[u8],
+)
+    requires { ⌜ (to + 32 ≤ length (now tiles)) × (length (now half) ≡ 2048) ⌝ }
+    ensures { λ _. ⌜ now (tiles .exit) ≡ painted (between to (to + 32) everywhere) (λ i. tileDots (now (half .entry)) (now (full .entry)) (now (glyph .entry)) (Halves high low) (i - to)) (now (tiles .entry)) ⌝ }
+{
+    if both_shown(high, low) {
+        let left = taken(half, 16 * (high as usize));
+        let right = taken(half, 16 * (low as usize));
+        store_beside(tiles, to, left, right);
+        return;
+    }
+    lay_rows(Content::Halves { high, low }, tiles, to, glyph, half, full);
+}
+
+// What a cell shows, as the tile that begins at `to`.
+pub fn lay(
+    content: Content,
+    tiles: &mut [u8],
+    to: usize,
+    glyph: &[u8; 128],
+    half: &[u8],
+    full: &[u8],
+)
+    requires { ⌜ (to + 32 ≤ length (now tiles)) × (length (now half) ≡ 2048) × Inside content (length (now full)) ⌝ }
+    ensures { λ _. ⌜ now (tiles .exit) ≡ painted (between to (to + 32) everywhere) (λ i. tileDots (now (half .entry)) (now (full .entry)) (now (glyph .entry)) content (i - to)) (now (tiles .entry)) ⌝ }
+{
+    match content {
+        Content::Image(i) => lay_block(tiles, to, glyph, 32 * (i as usize)),
+        Content::Full(n) => lay_block(tiles, to, full, 32 * (n as usize)),
+        Content::Halves { high, low } => lay_halves(high, low, tiles, to, glyph, half, full),
+        Content::Blank => lay_rows(Content::Blank, tiles, to, glyph, half, full),
+    }
+}

@@ -1,0 +1,118 @@
+-- Over each way a list of items acts as its deeds do, one after the other: of a write's half bytes or bits exactly the last acts. So two
+-- lists that are alike agree over any two ways.
+use Prim.Native.Nat.{ℕ, zero, suc}
+use mathlib.Core.Path.{_≡_, refl, ap, _∙_, subst}
+use mathlib.Core.Bool.{Bool, true, false}
+use mathlib.Core.List.{List, [], _∷_, _++_, map}
+use lib.ListN.{replicate}
+use Rattle.base.specs.Bits.{bits3-0}
+use Rattle.events.specs.declared.Event.{Event}
+use Rattle.events.specs.declared.Event.the-variants.{Transfer, Bit}
+use Rattle.links.specs.declared.Link.the-variants.{Parallel, Serial}
+use Rattle.links.specs.declared.Pairing.{Pairing}
+use Rattle.links.specs.declared.Pairing.the-variants.{Empty, Upper}
+use Rattle.links.specs.declared.Sync.{Sync}
+use Rattle.links.specs.declared.Sync.the-variants.{Body}
+use Rattle.links.specs.declared.Receiver.{Receiver}
+use Rattle.links.specs.declared.Receiver.the-variants.{Outside}
+use Rattle.links.specs.declared.Received.{Received}
+use Rattle.links.specs.declared.Received.the-variants.{Nothing, Byte}
+use Rattle.links.specs.declared.Carried.{Carried}
+use Rattle.links.specs.Halves.{bits7-4, writing, acts, paired}
+use Rattle.links.specs.Serial.{Listened, listened}
+use Rattle.links.specs.Sender.{threeBytes}
+use Rattle.links.specs.Taken.{byWidth, takenBy}
+use Rattle.links.specs.Items.{WholeWrite, Item, write, beside, Way, bytes, halves, serial, above, bitsOf, eventsOf, onward, wires, syncAfter, Alike, none, writes, events}
+use Rattle.links.specs.Connector.{Answered, Controller, At, comes, rests, carriedAt, eventAt, runs, act, allCarried, does, HasDl, KeepsDl, Idles}
+use Rattle.links.specs.Statements.{ItemsAct, Respected, ListsAgree}
+use Rattle.links.proofs.HalvesPaired.{second-half-acts}
+use Rattle.links.proofs.WriteHeard.{last-bit-acts}
+
+module _ {S : Type 0} (on : Controller S) where
+  -- a transfer of the parallel link, then the rest
+  transfer-first : (s : S) (pairing : Pairing) (t : _) (dl : Bool) (c : Carried) (rest : List Event) →
+      on .dl s ≡ dl → byWidth dl pairing t ≡ c →
+      runs on (record { state = s; link = Parallel pairing }) (Transfer t ∷ rest) ≡ runs on (carriedAt on s c .at) rest
+  unfolding runs eventAt takenBy
+  transfer-first s pairing t dl c rest d e = rw (d, e)
+
+  -- bits, then the rest
+  bits-first : (bits : List Bool) (s : S) (receiver : Receiver) (rest : List Event) →
+      runs on (record { state = s; link = Serial receiver }) (map Bit bits ++ rest)
+      ≡ runs on (record { state = allCarried on s (listened receiver bits .brought); link = Serial (listened receiver bits .receiver) }) rest
+  unfolding runs eventAt takenBy listened
+  bits-first [] s receiver rest = refl
+  bits-first (b ∷ bits) s receiver rest = bits-first bits _ _ rest
+
+  module _ (idles : Idles on) where
+    -- bits that bring nothing, then a byte
+    quiet : (n : ℕ) (s : S) (xs : List Received) → allCarried on s (replicate n Nothing ++ xs) ≡ allCarried on s xs
+    quiet zero s xs = refl
+    quiet (suc n) s xs = ap (λ (a : Answered S). allCarried on (a .state) (replicate n Nothing ++ xs)) (idles s) ∙ quiet n s xs
+
+    -- a write's second half leaves nothing open
+    write-closes : (s : S) (register : Bool) (byte : ℕ) →
+        carriedAt on s (acts (writing register byte)) .at ≡ record { state = act on s register byte; link = Parallel Empty }
+    write-closes s false byte = refl
+    write-closes s true byte = refl
+
+    -- a write over any way, then the rest
+    write-first : (way : Way) (s : S) (sync : Sync) (w : WholeWrite) (items : List Item) (rest : List Event) →
+        KeepsDl on way s (write w ∷ items) →
+        runs on (rests way s sync) (eventsOf way w ++ rest)
+        ≡ runs on (rests (onward way) (act on s (w .register) (w .byte)) (Body (w .register) 0 0)) rest
+    unfolding HasDl byWidth
+    write-first bytes s sync w items rest d = transfer-first s Empty (writing (w .register) (w .byte)) true _ rest (d .0) refl
+    write-first (halves low) s sync w items rest d =
+        let both = second-half-acts (w .register) (w .byte) (w .small) (low 0) (low 1) in
+        transfer-first s Empty _ false _ _ (d .0) (both .0)
+        ∙ ap (λ (a : Answered S). runs on (record { state = a .state; link = Parallel (Upper (w .register) (bits7-4 (w .byte))) })
+        (Transfer (writing (w .register) (above (bits3-0 (w .byte)) (low 1))) ∷ rest)) (idles s)
+        ∙ transfer-first s (Upper (w .register) (bits7-4 (w .byte))) _ false _ rest (d .0) (both .1)
+        ∙ ap (λ (at : At S). runs on at rest) (write-closes s (w .register) (w .byte))
+    write-first serial s sync w items rest d =
+        bits-first (bitsOf (threeBytes (w .register) (w .byte))) s (Outside 0 sync) rest
+        ∙ ap (λ (l : Listened). runs on (record { state = allCarried on s (l .brought); link = Serial (l .receiver) }) rest)
+        (last-bit-acts sync (w .register) (w .byte) (w .small))
+        ∙ ap (λ (t : S). runs on (record { state = t; link = Serial (Outside 0 (Body (w .register) 0 0)) }) rest)
+        (quiet 23 s (Byte (w .register) (w .byte) ∷ []))
+
+  -- what a list keeps it goes on keeping
+  keeps-on : (way : Way) (s : S) (item : Item) (items : List Item) → KeepsDl on way s (item ∷ items) →
+      KeepsDl on way (does on s (item ∷ [])) items
+  unfolding HasDl does
+  keeps-on bytes s item items d = d .1
+  keeps-on (halves low) s item items d = d .1
+  keeps-on serial s item items d = d
+
+  keeps-onward : (way : Way) (s : S) (items : List Item) → KeepsDl on way s items → KeepsDl on (onward way) s items
+  keeps-onward bytes s items d = d
+  keeps-onward (halves low) s items d = d
+  keeps-onward serial s items d = d
+
+  onward-rests : (way : Way) (s : S) (sync : Sync) → rests (onward way) s sync ≡ rests way s sync
+  onward-rests bytes s sync = refl
+  onward-rests (halves low) s sync = refl
+  onward-rests serial s sync = refl
+
+  pub items-act : ItemsAct on
+  unfolding runs eventAt wires syncAfter does
+  items-act idles way s sync [] d = refl
+  items-act idles way s sync (write w ∷ items) d =
+      write-first idles way s sync w items (wires (onward way) items) d
+      ∙ items-act idles (onward way) (act on s (w .register) (w .byte)) (Body (w .register) 0 0) items
+      (keeps-onward way _ items (keeps-on way s (write w) items d))
+      ∙ ap comes (onward-rests way _ _)
+  items-act idles way s sync (beside x ∷ items) d =
+      rw (x .alike) (items-act idles way (on .perform s (x .deed) .state) sync items (keeps-on way s (beside x) items d))
+
+  module _ (_≈_ : S → S → Type 0) where
+    infix 4 _≈_
+    pub lists-agree : ListsAgree on _≈_
+    unfolding does
+    lists-agree kept s t [] [] e none = e
+    lists-agree kept s t _ _ e (writes {w = w} {v = v} {ws = ws} {vs = vs} p q a) =
+        lists-agree kept _ _ ws vs
+        (subst (λ (r : Bool). act on s (w .register) (w .byte) ≈ act on t r (v .byte)) p
+        (kept .writes s t (w .register) (w .byte) (v .byte) (w .small) (v .small) e q)) a
+    lists-agree kept s t _ _ e (events {x = x} {ws = ws} {vs = vs} a) = lists-agree kept _ _ ws vs (kept .events s t x e) a

@@ -1,0 +1,27 @@
+-- Both bytes lit.
+use borrow.Author.Needs.{needs}
+use native.Mathlib.Omega.{arith}
+use mathlib.Core.Path.{ap₂, _∙_}
+use Rattle.picture.proofs.Laid.{pairOf, pair-shown-by}
+use Rattle.picture.proofs.tiles.tile_pair.Statement.{statement}
+use Rattle.picture.proofs.tiles.tile_pair.Tie as tie
+
+pub tile-pair-spec : {M : Type 1} → statement M
+tile-pair-spec =
+    tie.close
+    (tie.spec
+    (λ c. search needs)
+    (λ c. search needs)
+    (λ c. search needs)
+    (λ c. search needs)
+    (λ c. search needs)
+    (λ c. search needs)
+    (λ c. search needs)
+    (λ c. search needs)
+    (λ c κs. search needs)
+    (λ c. search needs)
+    (λ c. search needs)
+    (λ c. search needs)
+    (λ c. search needs)
+    (λ c κs. search needs)
+    (λ c. let a = c .before .before .before .before .before .before .before .before .args in ap₂ pairOf (c .before .before .before .lit .ensures) (c .lit2 .ensures) ∙ pair-shown-by (a .tile .now) (a .graphic .now) (a .look) (a .row) (a .cell)))

@@ -1,0 +1,19 @@
+-- If at all.
+use borrow.Author.Needs.{needs}
+use native.Mathlib.Omega.{arith}
+use Prim.Native.Nat.{ℕ, _+_, _*_, _-_, _/_, _%_, _≤_, _<_}
+use lib.ListN.{length, getD, length-set}
+use mathlib.Core.Path.{_≡_, refl, sym, ap, _∙_}
+use Rattle.base.specs.Painting.{painted, everywhere, between}
+use Rattle.picture.proofs.Laid.{painted-kept}
+use Rattle.picture.proofs.whole.overlay_if.Statement.{statement}
+use Rattle.picture.proofs.whole.overlay_if.Tie as tie
+
+pub overlay-if-spec : {M : Type 1} → statement M
+overlay-if-spec =
+    tie.close
+    (tie.spec
+    (λ c κs. search needs)
+    (λ c. search needs)
+    (λ c. rw (c .before .before .before .before .if1 .taken) (c .before .before .overlay-run .ensures))
+    (λ c. rw (c .if1 .left) (painted-kept _ _)))

@@ -1,0 +1,162 @@
+// The tiles of a line's sixteen cells, one after the other: what is done to them before they are handed out, in document 01's order.
+use crate::Look;
+use crate::rows::counter_word;
+use crate::shade::both;
+use crate::shade::overlay;
+use glyph::Pair;
+use glyph::lookup::content;
+use glyph::tile::lay;
+ghost use mathlib.Core.Path.{_≡_};
+ghost use mathlib.Core.Bool.{_&&_, _||_};
+ghost use Prim.Native.Nat.{_+_, _*_, _-_, _<_, _≤_};
+ghost use lib.ListN.{length, getD};
+ghost use lib.Dec.{eqb};
+ghost use Rattle.base.specs.Lists.{upto};
+ghost use Rattle.base.specs.Painting.{painted, everywhere, between};
+ghost use Rattle.picture.specs.Picture.{fonts, atPlace, overlaid, darkened};
+ghost use Rattle.picture.specs.Tiles.{wordDots, lineWord, tileByte, pairBy};
+
+// The word's dots, as the tile that begins at `to`.
+fn lay_word(
+    text: &[u8; 128],
+    glyph: &[u8; 128],
+    word: usize,
+    tiles: &mut [u8],
+    to: usize,
+    half: &[u8],
+    full: &[u8],
+)
+    requires { ⌜ (word < 64) × (to + 32 ≤ length (now tiles)) × (length (now half) ≡ 2048) ⌝ }
+    ensures { λ _. ⌜ now (tiles .exit) ≡ painted (between to (to + 32) everywhere) (λ i. wordDots (fonts half full) (now (text .entry)) (now (glyph .entry)) word (i - to)) (now (tiles .entry)) ⌝ }
+{
+    let at = 2 * word;
+    let shown = content(text[at], text[at + 1], full.len());
+    lay(shown, tiles, to, glyph, half, full);
+}
+
+// The dots of all sixteen cells.
+fn lay_words(
+    text: &[u8; 128],
+    glyph: &[u8; 128],
+    shift: usize,
+    line: usize,
+    tiles: &mut [u8],
+    half: &[u8],
+    full: &[u8],
+)
+    requires { ⌜ (shift < 256) × (line < 4) × (length (now tiles) ≡ 512) × (length (now half) ≡ 2048) ⌝ }
+    ensures { λ _. ⌜ now (tiles .exit) ≡ upto 512 (atPlace (λ cell j. wordDots (fonts half full) (now (text .entry)) (now (glyph .entry)) (lineWord shift line cell) j)) ⌝ }
+{
+    let mut cell: usize = 0;
+    while cell < 16 {
+        let word = 16 * line + (cell + shift) % 16;
+        let to = 32 * cell;
+        lay_word(text, glyph, word, tiles, to, half, full);
+        cell += 1;
+    }
+}
+
+// Cursor sets glyph row 15: the last two bytes of the tile that begins at `at`.
+fn fill_cursor(tiles: &mut [u8], at: usize, on: bool)
+    requires { ⌜ at + 32 ≤ length (now tiles) ⌝ }
+    ensures { λ _. ⌜ now (tiles .exit) ≡ painted (λ i. on && (eqb i (at + 30) || eqb i (at + 30 + 1))) (λ i. 0xFF) (now (tiles .entry)) ⌝ }
+{
+    if on {
+        let last = at + 30;
+        tiles[last] = 0xFF;
+        tiles[last + 1] = 0xFF;
+    }
+}
+
+fn invert(tiles: &mut [u8], from: usize, to: usize)
+    requires { ⌜ (from ≤ to) × (to ≤ length (now tiles)) ⌝ }
+    ensures { λ _. ⌜ now (tiles .exit) ≡ painted (between from to everywhere) (λ i. 0xFF - getD (now (tiles .entry)) i 0) (now (tiles .entry)) ⌝ }
+{
+    let mut i = from;
+    while i < to {
+        tiles[i] = 0xFF - tiles[i];
+        i += 1;
+    }
+}
+
+// Blink and line reverse invert.
+fn invert_if(tiles: &mut [u8], from: usize, to: usize, on: bool)
+    requires { ⌜ (from ≤ to) × (to ≤ length (now tiles)) ⌝ }
+    ensures { λ _. ⌜ now (tiles .exit) ≡ painted (λ i. on && between from to everywhere i) (λ i. 0xFF - getD (now (tiles .entry)) i 0) (now (tiles .entry)) ⌝ }
+{
+    if on {
+        invert(tiles, from, to);
+    }
+}
+
+// All sixteen tiles of a line, with everything over them but the graphic.
+pub(crate) fn lay_line(
+    text: &[u8; 128],
+    glyph: &[u8; 128],
+    look: Look,
+    line: usize,
+    tiles: &mut [u8],
+    half: &[u8],
+    full: &[u8],
+)
+    requires { ⌜ (line < 4) × (length (now tiles) ≡ 512) × (length (now half) ≡ 2048) ⌝ }
+    ensures { λ _. ⌜ now (tiles .exit) ≡ upto 512 (atPlace (λ cell j. tileByte (fonts half full) (now (text .entry)) (now (glyph .entry)) look (lineWord (look .view .shift) line cell) j)) ⌝ }
+{
+    let shift = look.view.shift as usize;
+    let cell = look.counter;
+    let counter = counter_word(cell);
+    let here = counter / 16 == line;
+    let at = 32 * ((counter % 16 + 256 - shift) % 16);
+    let reversed = look.view.reversed;
+    lay_words(text, glyph, shift, line, tiles, half, full);
+    fill_cursor(tiles, at, both(here, look.cursor));
+    invert_if(tiles, at, at + 32, both(here, look.blink));
+    invert_if(tiles, 0, 512, reversed[line]);
+}
+
+// The tile of one word, likewise.
+pub fn lay_tile(
+    text: &[u8; 128],
+    glyph: &[u8; 128],
+    look: Look,
+    word: usize,
+    tile: &mut [u8],
+    half: &[u8],
+    full: &[u8],
+)
+    requires { ⌜ (word < 64) × (length (now tile) ≡ 32) × (length (now half) ≡ 2048) ⌝ }
+    ensures { λ _. ⌜ now (tile .exit) ≡ upto 32 (tileByte (fonts half full) (now (text .entry)) (now (glyph .entry)) look word) ⌝ }
+{
+    let cell = look.counter;
+    let here = word == counter_word(cell);
+    let reversed = look.view.reversed;
+    let line = word / 16;
+    lay_word(text, glyph, word, tile, 0, half, full);
+    fill_cursor(tile, 0, both(here, look.cursor));
+    invert_if(tile, 0, 32, both(here, look.blink));
+    invert_if(tile, 0, 32, reversed[line]);
+}
+
+// A tile's byte as it shows: with the graphic over it, or nothing in the dark.
+fn lit(dark: bool, graphic: bool, dots: u8, byte: u8) -> u8
+    ensures { λ r. ⌜ r ≡ darkened dark (overlaid graphic dots byte) ⌝ }
+{
+    if dark {
+        return 0x00;
+    }
+    overlay(graphic, dots, byte)
+}
+
+// The two bytes that a cell's tile shows on a row of the glass.
+pub fn tile_pair(tile: &[u8], graphic: &[u8; 2048], look: Look, row: usize, cell: usize) -> Pair
+    requires { ⌜ (row < 32) × (cell < 16) × (length (now tile) ≡ 32) ⌝ }
+    ensures { λ r. ⌜ r ≡ pairBy (now (tile .entry)) (now (graphic .entry)) look row cell ⌝ }
+{
+    let s = (row + look.view.scroll as usize) % 64;
+    let at = 2 * (s % 16);
+    let place = 32 * s + 2 * cell;
+    Pair {
+        left: lit(look.dark, look.graphic, graphic[place], tile[at]),
+        right: lit(look.dark, look.graphic, graphic[place + 1], tile[at + 1]),
+    }
+}
