@@ -6,9 +6,9 @@ use native.Mathlib.Omega.{arith}
 use lib.ListN.{length, take, drop, length-append, length-drop, drop-of-length-le}
 use lib.Seq.{take-length, take-at, drop-at}
 use borrow.Rule.Slice.PartMut.{putMid}
-use Rattle.lent.specs.State.{State}
-use Rattle.packed.specs.Packed.{packed}
-use Rattle.packed.specs.LinkPacked.{linkPacked}
+use Rattle.calls.specs.State.{State}
+use Rattle.state_bytes.specs.Packed.{packed}
+use Rattle.state_bytes.specs.LinkPacked.{linkPacked}
 use Rattle.boundary.specs.Report.{stateBytes}
 
 -- a copy over as many bytes leaves none of them

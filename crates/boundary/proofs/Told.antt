@@ -8,8 +8,8 @@ use lib.ListN.{length}
 use borrow.Author.Tests.{eq-eqb, ne-eqb}
 use Rattle.picture.specs.Picture.{Seen}
 use Rattle.picture.specs.Refusals.{refusalOf}
-use Rattle.lent.specs.State.{State, freshState}
-use Rattle.transcript.specs.Replay.{Stopped, stopped, endless, replayed}
+use Rattle.calls.specs.State.{State, freshState}
+use Rattle.playback.specs.Replay.{Stopped, stopped, endless, replayed}
 use Rattle.boundary.specs.Report.{stateBytes, lastBytes, report, freshReplay}
 
 module _ (parallel : Bool) (e : Seen) (capture frame state₀ last₀ : List ℕ) (n : ℕ) (is : n ≡ refusalOf (length frame) (length (e .half)) (length (e .full))) where

@@ -7,10 +7,10 @@ use lib.Dec.{eqb}
 use Rattle.base.specs.Choice.{if_then_else_}
 use Rattle.picture.specs.Picture.{Seen}
 use Rattle.picture.specs.Refusals.{refusalOf}
-use Rattle.lent.specs.State.{State, freshState}
-use Rattle.transcript.specs.Replay.{Stopped, stopped, endless, replayed}
-use Rattle.packed.specs.Packed.{packed}
-use Rattle.packed.specs.LinkPacked.{linkPacked}
+use Rattle.calls.specs.State.{State, freshState}
+use Rattle.playback.specs.Replay.{Stopped, stopped, endless, replayed}
+use Rattle.state_bytes.specs.Packed.{packed}
+use Rattle.state_bytes.specs.LinkPacked.{linkPacked}
 
 -- a state as 2,337 bytes: text memory 128, glyph memory 128, graphic memory 2,048, the controls 23, the link 10
 unfoldable pub stateBytes : State → List ℕ

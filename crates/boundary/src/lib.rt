@@ -2,7 +2,7 @@
 // alone as 23 of them. Nothing is asked of a caller.
 mod spelling;
 
-use packed::unpack;
+use state_bytes::unpack;
 use panel::Made;
 use panel::Panel;
 use picture::refusals::refusal;
@@ -13,7 +13,7 @@ ghost use Rattle.controller.specs.Memories.{before};
 ghost use Rattle.picture.specs.Picture.{seen};
 ghost use Rattle.picture.specs.Refusals.{leaves, drawn};
 ghost use Rattle.links.specs.Sender.{leaving, sent};
-ghost use Rattle.packed.specs.Packed.{unpacked};
+ghost use Rattle.state_bytes.specs.Packed.{unpacked};
 ghost use Rattle.boundary.specs.Report.{report, freshReplay};
 
 // Draws the picture of a state into the frame, and answers 0 or the refusal's number.
@@ -63,7 +63,7 @@ pub extern "C" fn zifqarell_replay(
         return number;
     }
     let fresh = Panel::fresh(Made { parallel });
-    let stop = transcript::replay(fresh, capture, frame, half, full, phase);
+    let stop = playback::replay(fresh, capture, frame, half, full, phase);
     let panel = stop.panel;
     spell_state(panel, state);
     *last = last_bytes(stop.place, stop.reply, stop.count);

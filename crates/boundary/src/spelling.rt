@@ -1,6 +1,6 @@
 // Where a replay stopped, spelled into arrays that the caller lends.
-use packed::pack;
-use packed::pack_link;
+use state_bytes::pack;
+use state_bytes::pack_link;
 use panel::Panel;
 ghost use mathlib.Core.Path.{_≡_};
 ghost use lib.ListN.{length};

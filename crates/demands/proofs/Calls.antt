@@ -18,9 +18,9 @@ use Rattle.links.specs.declared.Taken.the-variants.{OtherLink, Carries}
 use Rattle.links.specs.Taken.{takenBy}
 use Rattle.picture.specs.Picture.{Seen}
 use Rattle.picture.specs.Refusals.{refusalOf, drawn}
-use Rattle.lent.specs.State.{State}
-use Rattle.lent.specs.Calls.{unlessOther, takenOn, called}
-use Rattle.lent.proofs.Kept.{called-unmoved}
+use Rattle.calls.specs.State.{State}
+use Rattle.calls.specs.Calls.{unlessOther, takenOn, called}
+use Rattle.calls.proofs.Kept.{called-unmoved}
 use Rattle.demands.specs.Demand1.{TableSays, ofOtherLink, CallRefuses, DrawRefuses}
 use Rattle.demands.proofs.Tables.{orOther, table-says}
 

@@ -1,7 +1,7 @@
 -- Demand 1, from its parts.
-use Rattle.transcript.proofs.Endless.{not-full}
-use Rattle.transcript.proofs.Parts.{parts-replay-as-whole}
-use Rattle.transcript.proofs.Roomy.{room-tells-all}
+use Rattle.playback.proofs.Endless.{not-full}
+use Rattle.playback.proofs.Parts.{parts-replay-as-whole}
+use Rattle.playback.proofs.Roomy.{room-tells-all}
 use Rattle.demands.specs.Demand1.{Demand1}
 use Rattle.demands.proofs.Tables.{table-once, send-refuses, send-once, record-says, record-once}
 use Rattle.demands.proofs.Calls.{call-refuses, draw-refuses}

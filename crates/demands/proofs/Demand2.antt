@@ -17,13 +17,13 @@ use Rattle.links.specs.Idle.{idle}
 use Rattle.links.specs.Taken.{takenBy}
 use Rattle.picture.specs.Picture.{Seen}
 use Rattle.repaint.specs.Repaint.{repainted, countNamed, named}
-use Rattle.lent.specs.State.{State, state}
-use Rattle.lent.proofs.Kept.{admitted, reset-fresh}
+use Rattle.calls.specs.State.{State, state}
+use Rattle.calls.proofs.Kept.{admitted, reset-fresh}
 use Rattle.links.specs.Sender.{sent}
 use Rattle.picture.proofs.Accepted.{draws}
-use Rattle.lent.specs.Calls.{Called, unlessOther}
-use Rattle.sequences.proofs.Agreement.{call-is-connected, sent-is-received, writes-are-received, links-agree}
-use Rattle.sequences.proofs.KeepDl.{function-sets-keep-dl}
+use Rattle.calls.specs.Calls.{Called, unlessOther}
+use Rattle.demands.proofs.Agreement.{call-is-connected, sent-is-received, writes-are-received, links-agree}
+use Rattle.demands.proofs.KeepDl.{function-sets-keep-dl}
 use Rattle.panel.specs.Handed.{handed}
 use Rattle.demands.specs.Demand2.{Run, yielded, SequencesAsDefined, SelectLowIdles, SendsThreeBytes, Demand2}
 use Rattle.demands.proofs.Replies.{replies-to-reads}

@@ -28,12 +28,12 @@ use Rattle.repaint.proofs.Counts.{count-glyph, count-graphic}
 use Rattle.picture.proofs.CellRows.{picture-at}
 use Rattle.picture.proofs.Accepted as sizes
 use Rattle.repaint.specs.Repaint.{named, repainted, countNamed}
-use Rattle.lent.specs.State.{State, Valid}
-use Rattle.lent.specs.Calls.{Called, unlessOther, takenOn, reaching, Fits, called, after}
-use Rattle.lent.proofs.Kept.{fresh-state-valid, called-valid, admitted, still-fits}
-use Rattle.sequences.proofs.Repainted.{performed-unnamed}
-use Rattle.sequences.proofs.Bounded.{countOf, called-count}
-use Rattle.sequences.proofs.Sequences.{after-valid, after-shows}
+use Rattle.calls.specs.State.{State, Valid}
+use Rattle.calls.specs.Calls.{Called, unlessOther, takenOn, reaching, Fits, called, after}
+use Rattle.calls.proofs.Kept.{fresh-state-valid, called-valid, admitted, still-fits}
+use Rattle.demands.proofs.Repainted.{performed-unnamed}
+use Rattle.demands.proofs.Bounded.{countOf, called-count}
+use Rattle.demands.proofs.Sequences.{after-valid, after-shows}
 use Rattle.demands.specs.Demand3.{pictureOf, namedActed, namedBy, everNamed, PictureStands, NamedBytesShown, CountIsNumber, GlyphAtMost32, GraphicAtMost1, Demand3}
 
 picture-stands : PictureStands

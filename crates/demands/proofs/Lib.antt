@@ -1,3 +1,9 @@
+pub mod Repainted
+pub mod Bounded
+pub mod Sequences
+pub mod ButDl
+pub mod Agreement
+pub mod KeepDl
 pub mod Tables
 pub mod Calls
 pub mod Replays

@@ -33,10 +33,10 @@ use Rattle.links.specs.declared.Link.the-variants.{Parallel, Serial}
 use Rattle.links.specs.declared.Pairing.{Pairing}
 use Rattle.links.specs.Taken.{byWidth, takenBy}
 use Rattle.picture.specs.Picture.{Seen}
-use Rattle.lent.specs.State.{State, state}
-use Rattle.lent.specs.Calls.{Fits, called}
-use Rattle.sequences.specs.Wires.{answers}
-use Rattle.lent.proofs.Kept.{still-fits}
+use Rattle.calls.specs.State.{State, state}
+use Rattle.calls.specs.Calls.{Fits, called}
+use Rattle.demands.specs.Wires.{answers}
+use Rattle.calls.proofs.Kept.{still-fits}
 use Rattle.demands.specs.Demand1.{isSerial}
 use Rattle.demands.specs.Readings.{instruct, write, status, read}
 use Rattle.demands.specs.ReadBack.{repliesTo, toText, toGlyph, toGraphic, thereAndBack, bothRead, TakesBytes, ReadBack}

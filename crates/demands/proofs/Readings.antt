@@ -24,10 +24,10 @@ use Rattle.glyph.specs.Numbering.{numberOf}
 use Rattle.picture.specs.Picture.{Seen}
 use Rattle.picture.specs.Refusals.{refusalOf}
 use Rattle.repaint.specs.Repaint.{named, countNamed}
-use Rattle.lent.specs.State.{State, state, freshState}
-use Rattle.lent.specs.Calls.{Called, accepted, unlessOther, takenOn, Fits, called, after}
-use Rattle.sequences.specs.Wires.{answers}
-use Rattle.lent.proofs.Kept.{admitted, still-fits}
+use Rattle.calls.specs.State.{State, state, freshState}
+use Rattle.calls.specs.Calls.{Called, accepted, unlessOther, takenOn, Fits, called, after}
+use Rattle.demands.specs.Wires.{answers}
+use Rattle.calls.proofs.Kept.{admitted, still-fits}
 use Rattle.demands.specs.Readings.{Row, table, zeroFonts, Observed, observed, AllRead, AllHold, ReadingsHold}
 
 -- what a call leaves but the frame

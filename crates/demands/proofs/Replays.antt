@@ -19,19 +19,19 @@ use Rattle.events.specs.declared.Event.the-variants.{Bit}
 use Rattle.links.specs.Taken.{takenBy}
 use Rattle.picture.specs.Picture.{Seen}
 use Rattle.picture.specs.Refusals.{refusalOf}
-use Rattle.lent.specs.State.{State, freshState}
-use Rattle.lent.specs.Calls.{unlessOther, Fits, called, Stands, after}
-use Rattle.lent.proofs.Kept.{admitted, still-fits}
-use Rattle.sequences.specs.Wires.{answers, numbersOf}
-use Rattle.lines.specs.Text.{Answered, answer, lines}
-use Rattle.sequences.proofs.Sequences.{after-append, numbers-append, zeros-append}
+use Rattle.calls.specs.State.{State, freshState}
+use Rattle.calls.specs.Calls.{unlessOther, Fits, called, Stands, after}
+use Rattle.calls.proofs.Kept.{admitted, still-fits}
+use Rattle.demands.specs.Wires.{answers, numbersOf}
+use Rattle.printed.specs.Text.{Answered, answer, lines}
+use Rattle.demands.proofs.Sequences.{after-append, numbers-append, zeros-append}
 use Rattle.capture.specs.Record.{number}
 use Rattle.capture.specs.Capture.{Recorded, contents}
-use Rattle.transcript.specs.Records.{heard, eightBits, recorded}
-use Rattle.transcript.specs.Replay.{Replayed, answered, Room, roomFor, roomBehind, lineOf, obeyed, obeyedAll, replayed}
-use Rattle.transcript.specs.Transcript.{transcribed}
+use Rattle.playback.specs.Records.{heard, eightBits, recorded}
+use Rattle.playback.specs.Replay.{Replayed, answered, Room, roomFor, roomBehind, lineOf, obeyed, obeyedAll, replayed}
+use Rattle.playback.specs.Transcript.{transcribed}
 use Rattle.boundary.specs.Report.{freshReplay}
-use Rattle.transcript.proofs.Refused.{heard-accepted, recorded-length}
+use Rattle.playback.proofs.Refused.{heard-accepted, recorded-length}
 use Rattle.demands.specs.Captures.{callsOf, callsOfAll, lastReply, sumOfCounts, answersOf}
 use Rattle.demands.specs.Demand1.{TableSays, isSerial, ofOtherLink, firstOfOtherLink, StopsAt, behindAll, atRecord, noRoom, ReplayStops, TranscriptRefuses, TranscriptTells, ExportedReplayRefuses}
 use Rattle.demands.proofs.Tables.{orOther, table-number}

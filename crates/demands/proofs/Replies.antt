@@ -27,8 +27,8 @@ use Rattle.links.specs.Serial.{heard}
 use Rattle.links.specs.Taken.{byWidth, deedOf, takenBy, replied}
 use Rattle.picture.specs.Picture.{Seen}
 use Rattle.picture.specs.Refusals.{refusalOf}
-use Rattle.lent.specs.State.{State}
-use Rattle.lent.specs.Calls.{Called, unlessOther, takenOn, called}
+use Rattle.calls.specs.State.{State}
+use Rattle.calls.specs.Calls.{Called, unlessOther, takenOn, called}
 use Rattle.demands.specs.Demand2.{isRead, RepliesToReads}
 
 module _ (m : Memories) (c : Control) where

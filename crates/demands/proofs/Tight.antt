@@ -1,6 +1,6 @@
 -- One law: what a call leaves gives its outcome back, so two outcomes that leave the same are one.
 use mathlib.Core.Path.{_≡_, refl, ap, sym, _∙_}
-use Rattle.lent.specs.State.{State}
+use Rattle.calls.specs.State.{State}
 use Rattle.panel.specs.declared.Panel.{Panel}
 use Rattle.demands.specs.Tight.{Contract, Tight, PublicCall, contractOf, fresh, call, draw, lentCall, send, read, recordAt, answerNumber, readerOver, readerStep}
 use Rattle.demands.specs.Tight.{replay, transcribe, putLast, exportedDraw, exportedSend, exportedReplay, braille, plain, pbm}

@@ -8,11 +8,11 @@ use Rattle.events.specs.declared.Event.the-variants.{Bit}
 use Rattle.links.specs.Items.{highestFirst}
 use Rattle.capture.specs.Capture.{Recorded}
 use Rattle.picture.specs.Picture.{Seen}
-use Rattle.lent.specs.State.{State}
-use Rattle.lent.specs.Calls.{Called, after}
-use Rattle.sequences.specs.Wires.{answers}
-use Rattle.lines.specs.Text.{Answered, answer}
-use Rattle.transcript.specs.Records.{eventOf}
+use Rattle.calls.specs.State.{State}
+use Rattle.calls.specs.Calls.{Called, after}
+use Rattle.demands.specs.Wires.{answers}
+use Rattle.printed.specs.Text.{Answered, answer}
+use Rattle.playback.specs.Records.{eventOf}
 
 -- a record's calls: of kind 4 eight serial bits (highest first), of any other one
 unfoldable pub callsOf : ℕ → ℕ → List Event

@@ -16,16 +16,16 @@ use Rattle.links.specs.declared.Link.the-variants.{Parallel, Serial}
 use Rattle.links.specs.Sender.{sent, leaving}
 use Rattle.picture.specs.Picture.{Seen}
 use Rattle.picture.specs.Refusals.{drawn, leaves}
-use Rattle.lent.specs.State.{State}
-use Rattle.lent.specs.Calls.{called, refused, after}
-use Rattle.sequences.specs.Wires.{numbersOf}
+use Rattle.calls.specs.State.{State}
+use Rattle.calls.specs.Calls.{called, refused, after}
+use Rattle.demands.specs.Wires.{numbersOf}
 use Rattle.capture.specs.declared.Answer.{Answer}
 use Rattle.capture.specs.declared.Answer.the-variants.{Record, Short, WrongMark, WrongKind, WrongValue, End}
 use Rattle.capture.specs.Record.{kindOf, valueOf, answer, number}
 use Rattle.capture.specs.Capture.{Recorded, contents}
-use Rattle.transcript.specs.Replay.{endingAt, Replayed, Room, endless, bytes, replayed}
-use Rattle.transcript.specs.Transcript.{withLines, transcribed}
-use Rattle.transcript.specs.Statements.{PartsReplayAsWhole, RoomTellsAll}
+use Rattle.playback.specs.Replay.{endingAt, Replayed, Room, endless, bytes, replayed}
+use Rattle.playback.specs.Transcript.{withLines, transcribed}
+use Rattle.playback.specs.Statements.{PartsReplayAsWhole, RoomTellsAll}
 use Rattle.boundary.specs.Report.{report, freshReplay}
 use Rattle.demands.specs.Captures.{callsOf, callsOfAll, answersOf}
 

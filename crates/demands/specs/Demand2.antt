@@ -20,9 +20,9 @@ use Rattle.links.specs.Idle.{idle}
 use Rattle.links.specs.Sender.{threeBytes, leaving, sent}
 use Rattle.picture.specs.Picture.{Seen, pictured}
 use Rattle.picture.specs.Refusals.{leaves, drawn}
-use Rattle.lent.specs.State.{State, state, freshState}
-use Rattle.lent.specs.Calls.{Called, Fits, called}
-use Rattle.sequences.specs.Agreement.{CallIsConnected, SentIsReceived, WritesAreReceived, LinksAgree, FunctionSetsKeepDl}
+use Rattle.calls.specs.State.{State, state, freshState}
+use Rattle.calls.specs.Calls.{Called, Fits, called}
+use Rattle.demands.specs.Agreement.{CallIsConnected, SentIsReceived, WritesAreReceived, LinksAgree, FunctionSetsKeepDl}
 use Rattle.panel.specs.declared.Panel.{Panel}
 use Rattle.panel.specs.declared.Outcome.{Outcome}
 use Rattle.panel.specs.Handed.{stateOf, handed}

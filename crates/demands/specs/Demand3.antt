@@ -18,9 +18,9 @@ use Rattle.table.specs.declared.Target.the-variants.{Glyph, Graphic}
 use Rattle.events.specs.declared.Deed.the-variants.{Whole}
 use Rattle.picture.specs.Picture.{Seen, pictured}
 use Rattle.repaint.specs.Repaint.{named}
-use Rattle.lent.specs.State.{State, freshState, Valid}
-use Rattle.lent.specs.Calls.{takenOn, reaching, Fits, called, after}
-use Rattle.sequences.specs.Wires.{isData}
+use Rattle.calls.specs.State.{State, freshState, Valid}
+use Rattle.calls.specs.Calls.{takenOn, reaching, Fits, called, after}
+use Rattle.demands.specs.Wires.{isData}
 
 -- the picture of a state
 abbrev pub pictureOf : Seen → State → List ℕ

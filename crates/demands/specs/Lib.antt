@@ -1,3 +1,5 @@
+pub mod Wires
+pub mod Agreement
 pub mod Captures
 pub mod Demand1
 pub mod Demand2

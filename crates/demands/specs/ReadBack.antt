@@ -9,9 +9,9 @@ use Rattle.controller.specs.declared.Waiting.the-variants.{Nothing}
 use Rattle.controller.specs.Instructions.{stepped}
 use Rattle.events.specs.declared.Event.{Event}
 use Rattle.picture.specs.Picture.{Seen}
-use Rattle.lent.specs.State.{State, Valid}
-use Rattle.lent.specs.Calls.{Fits}
-use Rattle.sequences.specs.Wires.{answers}
+use Rattle.calls.specs.State.{State, Valid}
+use Rattle.calls.specs.Calls.{Fits}
+use Rattle.demands.specs.Wires.{answers}
 use Rattle.demands.specs.Demand1.{isSerial}
 use Rattle.demands.specs.Readings.{instruct, write, status, read}
 

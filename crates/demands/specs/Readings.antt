@@ -14,9 +14,9 @@ use Rattle.links.specs.Items.{bitsOf}
 use Rattle.glyph.specs.declared.Code.the-variants.{Number}
 use Rattle.glyph.specs.Numbering.{numberOf}
 use Rattle.picture.specs.Picture.{Seen}
-use Rattle.lent.specs.State.{State, freshState}
-use Rattle.lent.specs.Calls.{after}
-use Rattle.sequences.specs.Wires.{answers}
+use Rattle.calls.specs.State.{State, freshState}
+use Rattle.calls.specs.Calls.{after}
+use Rattle.demands.specs.Wires.{answers}
 
 -- the calls as the table writes them
 abbrev pub instruct : ℕ → Event

@@ -13,9 +13,9 @@ use Rattle.picture.specs.Picture.{Seen}
 use Rattle.picture.specs.Refusals as refusals
 use Rattle.picture.specs.Refusals.{Drawn, drawn}
 use Rattle.events.specs.declared.Event.{Event}
-use Rattle.lent.specs.declared.Answer as lent
-use Rattle.lent.specs.State.{State, freshState}
-use Rattle.lent.specs.Calls.{Called, called, left}
+use Rattle.calls.specs.declared.Answer as lent
+use Rattle.calls.specs.State.{State, freshState}
+use Rattle.calls.specs.Calls.{Called, called, left}
 use Rattle.panel.specs.declared.Panel.{Panel}
 use Rattle.panel.specs.declared.Outcome as panel
 use Rattle.panel.specs.Handed.{stateOf, memoriesOf, handed}
@@ -25,16 +25,16 @@ use Rattle.capture.specs.Record.{answer, number}
 use Rattle.capture.specs.declared.Step.{Step}
 use Rattle.capture.specs.Capture.{stepAt}
 use Rattle.capture.specs.Reader as reader
-use Rattle.transcript.specs.declared.Stop.{Stop}
-use Rattle.transcript.specs.declared.Told.{Told}
-use Rattle.lines.specs.Text as lines
-use Rattle.transcript.specs.Transcript.{Transcribed, transcribed, tells}
-use Rattle.transcript.specs.Replay.{Stopped, stopped, stopsAt, endless, replayed}
-use Rattle.packed.specs.Packed.{unpacked}
+use Rattle.playback.specs.declared.Stop.{Stop}
+use Rattle.playback.specs.declared.Told.{Told}
+use Rattle.printed.specs.Text as lines
+use Rattle.playback.specs.Transcript.{Transcribed, transcribed, tells}
+use Rattle.playback.specs.Replay.{Stopped, stopped, stopsAt, endless, replayed}
+use Rattle.state_bytes.specs.Packed.{unpacked}
 use Rattle.boundary.specs.Report.{Report, report, freshReplay}
-use Rattle.glass.specs.Braille as brailleOf
-use Rattle.glass.specs.Plain as plainOf
-use Rattle.glass.specs.Pbm as pbmOf
+use Rattle.frame_view.specs.Braille as brailleOf
+use Rattle.frame_view.specs.Plain as plainOf
+use Rattle.frame_view.specs.Pbm as pbmOf
 
 pub record Contract : Type 1 where
   pub Input : Type 0

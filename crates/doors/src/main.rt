@@ -7,7 +7,7 @@ use panel::Made;
 use panel::Outcome;
 use panel::Panel;
 ghost use Prim.Native.Nat.{_≤_};
-ghost use Rattle.lent.specs.State.{Valid};
+ghost use Rattle.calls.specs.State.{Valid};
 ghost use Rattle.panel.specs.Handed.{stateOf};
 
 // What a script's byte pairs say: a kind, as in captures, and a value.

@@ -1,7 +1,7 @@
 -- Document 01, "Links": what holds of the three links and the sender, each statement with what it means on the wires.
 -- Each is proved in proofs/, under its own name in small letters (`ItemsAct` as `items-act`). A controller is
 -- anything that `Controller` describes: its state may hold a frame, counts or time, and no statement looks into it. The panel is one
--- (crate `sequences`, `board`).
+-- (crate `demands`, `board`).
 use Prim.Native.Nat.{ℕ, _≤_, _<_}
 use mathlib.Core.Path.{_≡_}
 use mathlib.Core.Bool.{Bool, true, false}

@@ -2,9 +2,9 @@
 use Prim.Native.Nat.{ℕ}
 use mathlib.Core.List.{List}
 use Rattle.controller.specs.Memories.{Memories, memories}
-use Rattle.lent.specs.declared.Answer.{Answer}
-use Rattle.lent.specs.State.{State, state}
-use Rattle.lent.specs.Calls.{Called}
+use Rattle.calls.specs.declared.Answer.{Answer}
+use Rattle.calls.specs.State.{State, state}
+use Rattle.calls.specs.Calls.{Called}
 use Rattle.panel.specs.declared.Panel.{Panel}
 use Rattle.panel.specs.declared.Outcome.{Outcome}
 

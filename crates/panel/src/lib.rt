@@ -1,9 +1,9 @@
 // The door: `Panel`, the whole state of document 01, with the calls of document 01. A panel goes in by value and is handed on.
-// The same calls on memories that a board keeps and lends are those of crate `lent`, with the same definition behind both.
+// The same calls on memories that a board keeps and lends are those of crate `calls`, with the same definition behind both.
 use controller::Control;
 use links::Link;
 
-mod calls;
+mod methods;
 
 // The whole state of document 01.
 pub struct Panel {

@@ -6,14 +6,14 @@ use libc::STDIN_FILENO;
 use libc::STDOUT_FILENO;
 use panel::Made;
 use panel::Panel;
-use transcript::Told;
+use playback::Told;
 ghost use Prim.Native.Nat.{_+_, _/_, _≤_};
 ghost use mathlib.Core.Bool.{false};
 ghost use mathlib.Core.Path.{_≡_};
 ghost use lib.ListN.{length};
-ghost use Rattle.lent.specs.State.{Valid};
+ghost use Rattle.calls.specs.State.{Valid};
 ghost use Rattle.panel.specs.Handed.{stateOf};
-ghost use Rattle.lines.specs.Text.{Counts};
+ghost use Rattle.printed.specs.Text.{Counts};
 
 // How many bytes came, and whether a read failed.
 struct Filled {
@@ -96,7 +96,7 @@ fn part(panel: Panel, place: usize, frame: &mut [u8; 1024]) -> Came
     let n = filled.count;
     let unread = filled.failed;
     let mut text = io::large_buffer();
-    let told = transcript::transcribe(
+    let told = playback::transcribe(
         panel,
         place,
         &input[..n],
@@ -119,7 +119,7 @@ fn part(panel: Panel, place: usize, frame: &mut [u8; 1024]) -> Came
 // The last line.
 fn print_last(place: usize, number: u8) {
     let mut text = [0u8; 48];
-    let n = lines::put_last(&mut text, place, number);
+    let n = printed::put_last(&mut text, place, number);
     print(&text[..n]);
 }
 

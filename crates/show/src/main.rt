@@ -46,7 +46,7 @@ fn write_picture(at: usize, frame: &[u8; 1024]) {
         failed(&name[..n]);
         return;
     }
-    let picture = glass::pbm(frame);
+    let picture = frame_view::pbm(frame);
     if !io::write_all(fd, &picture) {
         failed(&name[..n]);
     }
@@ -60,11 +60,11 @@ fn picture(asked: Asked, frame: &[u8; 1024], ended: Ended) {
         return;
     }
     if asked.plain {
-        let text = glass::plain(frame);
+        let text = frame_view::plain(frame);
         print(&text);
         return;
     }
-    let text = glass::braille(frame);
+    let text = frame_view::braille(frame);
     if print(&text) {
         caption(ended);
     }

@@ -2,7 +2,7 @@
 use crate::files::fill;
 use panel::Made;
 use panel::Panel;
-ghost use Rattle.lent.specs.State.{Valid};
+ghost use Rattle.calls.specs.State.{Valid};
 ghost use Rattle.panel.specs.Handed.{stateOf};
 
 // Where a replay ended: the panel then, how many records it accepted, the refusal number, and whether all could be read.
@@ -48,7 +48,7 @@ fn part(
     let loaded = fill(fd, &mut input, wanted(most));
     let n = loaded.count;
     let panel = before.panel;
-    let stop = transcript::replay(panel, &input[..n], frame, half, full, phase);
+    let stop = playback::replay(panel, &input[..n], frame, half, full, phase);
     let number = stop.number;
     let next = stop.panel;
     Ended {

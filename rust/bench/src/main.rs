@@ -1,7 +1,7 @@
 //! The proved code measured against plain Rust, on the same inputs in one run.
 //!
 //!     bench                        times all of it, and prints tables of ratios
-//!     bench draws|writes|strokes|programs    only these
+//!     bench draws|writes|timing|programs    only these
 //!     bench pictures FOLDER        holds the proved pictures to those stored in FOLDER, a line 'ok ..' each
 //!     bench write-pictures FOLDER  stores the pictures that plain Rust draws dot by dot
 mod bytewise;
@@ -43,12 +43,12 @@ fn main() {
         }
         ["draws"] => draws::measure(&fonts, &screens),
         ["writes"] => writes::measure(&fonts),
-        ["strokes"] => strokes::measure(),
+        ["timing"] => strokes::measure(),
         ["programs"] => programs::measure(),
         ["pictures", folder] => passed = pictures::compare(folder, &fonts, &screens),
         ["write-pictures", folder] => passed = pictures::write(folder, &fonts, &screens),
         _ => {
-            eprintln!("usage: bench [draws | writes | strokes | programs | pictures FOLDER | write-pictures FOLDER]");
+            eprintln!("usage: bench [draws | writes | timing | programs | pictures FOLDER | write-pictures FOLDER]");
             passed = false;
         }
     };

@@ -1,10 +1,10 @@
-//! A text write with its repaint, timed from outside: the program `strokes` does one thing a million times.
+//! A text write with its repaint, timed from outside: the program `timing` does one thing a million times.
 use crate::timing::Times;
 use std::process::{Command, Stdio};
 use std::time::Instant;
 
 /// Built for this processor by `tools/native`.
-const PROGRAM: &str = "target/native/strokes";
+const PROGRAM: &str = "target/native/timing";
 const RUNS: usize = 11;
 const TIMES: f64 = 1e6;
 
@@ -30,7 +30,7 @@ pub fn measure() {
             match once(word) {
                 Some(time) => times[k].push(time),
                 None => {
-                    eprintln!("bench: {PROGRAM} cannot be run: `tools/native strokes` builds it, and bench is run at the project's root");
+                    eprintln!("bench: {PROGRAM} cannot be run: `tools/native timing` builds it, and bench is run at the project's root");
                     return;
                 }
             }

@@ -1,6 +1,6 @@
 -- The bits left fall; every panel handed on is valid.
 use borrow.Author.Needs.{needs}
-use Rattle.lent.specs.State.{Valid}
+use Rattle.calls.specs.State.{Valid}
 use Rattle.panel.specs.Handed.{stateOf}
 use Rattle.doors.proofs.heard.Statement.{statement}
 use Rattle.doors.proofs.heard.Tie as tie

@@ -1,7 +1,7 @@
 -- The loop keeps the panel valid; nothing is said of what is printed.
 use Prim.Native.Nat.{_≤_, _-_}
 use borrow.Author.Needs.{needs}
-use Rattle.lent.specs.State.{Valid}
+use Rattle.calls.specs.State.{Valid}
 use Rattle.panel.specs.Handed.{stateOf}
 use Rattle.doors.proofs.run.Statement.{statement}
 use Rattle.doors.proofs.run.Tie as tie

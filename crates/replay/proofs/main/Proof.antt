@@ -3,7 +3,7 @@ use Prim.Native.Nat.{_-_, _^_}
 use mathlib.Core.Path.{_≡_}
 use native.Mathlib.Omega.{arith}
 use borrow.Author.Needs.{needs}
-use Rattle.lent.specs.State.{Valid}
+use Rattle.calls.specs.State.{Valid}
 use Rattle.panel.specs.Handed.{stateOf}
 use Rattle.replay.proofs.main.Statement.{statement}
 use Rattle.replay.proofs.main.Tie as tie

@@ -2,7 +2,7 @@
 use Prim.Native.Nat.{ℕ, _+_, _/_}
 use borrow.Author.Needs.{needs}
 use mathlib.Core.Path.{ap, sym, _∙_}
-use Rattle.transcript.proofs.Through.{told-through}
+use Rattle.playback.proofs.Through.{told-through}
 use Rattle.replay.proofs.part.Statement.{statement}
 use Rattle.replay.proofs.part.Tie as tie
 

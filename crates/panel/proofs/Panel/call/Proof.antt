@@ -1,6 +1,6 @@
 -- What the call on lent memories leaves, put together.
 use borrow.Author.Needs.{needs}
-use Rattle.lent.proofs.Kept.{left-valid}
+use Rattle.calls.proofs.Kept.{left-valid}
 use Rattle.panel.proofs.Panel.call.Statement.{statement}
 use Rattle.panel.proofs.Panel.call.Tie as tie
 

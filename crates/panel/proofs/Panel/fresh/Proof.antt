@@ -2,7 +2,7 @@
 use borrow.Author.Needs.{needs}
 use Rattle.controller.specs.Memories.{freshMemories}
 use Rattle.controller.proofs.Kept.{fresh-valid}
-use Rattle.lent.specs.State.{freshState}
+use Rattle.calls.specs.State.{freshState}
 use Rattle.panel.proofs.Panel.fresh.Statement.{statement}
 use Rattle.panel.proofs.Panel.fresh.Tie as tie
 

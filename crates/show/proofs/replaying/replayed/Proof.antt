@@ -1,6 +1,6 @@
 -- The panel handed on is valid; the records left fall.
 use borrow.Author.Needs.{needs}
-use Rattle.lent.specs.State.{Valid}
+use Rattle.calls.specs.State.{Valid}
 use Rattle.panel.specs.Handed.{stateOf}
 use Rattle.show.proofs.replaying.replayed.Statement.{statement}
 use Rattle.show.proofs.replaying.replayed.Tie as tie

@@ -1,0 +1,97 @@
+-- Document 01, "Links": the sender and the same state over all links, in the panel's own calls, frame and counts included.
+-- Each statement is proved in proofs/, under its own name in small letters (`SentIsReceived` as `sent-is-received`).
+use Prim.Native.Nat.{ℕ}
+use mathlib.Core.Bool.{true}
+use mathlib.Core.List.{List}
+use mathlib.Core.Path.{_≡_}
+use lib.ListN.{length, replicate}
+use Rattle.events.specs.declared.Event.{Event}
+use Rattle.links.specs.declared.Link.{Link}
+use Rattle.links.specs.declared.Sync.the-variants.{Lost}
+use Rattle.links.specs.Items.{WholeWrite, Item, Way, serial, wires, idleOn, resting, syncAfter, Alike}
+use Rattle.links.specs.Connector.{Outcome, Comes, otherLink, comes, eventAt, KeepsDl}
+use Rattle.picture.specs.Picture.{Seen}
+use Rattle.calls.specs.State.{State}
+use Rattle.calls.specs.Calls.{Called, refused, Fits, called, after}
+use Rattle.demands.specs.Wires.{numbersOf, countsOf, Board, boardOf, board, given, onLink, standing, items, withDl, HasWidth, SetsWidth}
+
+-- an accepted call leaves this board on its link, with its frame, and answers with this reply
+pub record Does (k : Called) (o : Outcome Board) : Type 0 where
+  pub state : k .state ≡ onLink (o .at .state) (o .at .link)
+  pub frame : k .frame ≡ o .at .state .frame
+  pub number : k .number ≡ 0
+  pub reply : k .reply ≡ o .reply
+
+abbrev pub DoesBy : Called → State → List ℕ → Comes (Outcome Board) → Type 0
+DoesBy k s frame otherLink = k ≡ refused s frame 5
+DoesBy k s frame (comes o) = Does k o
+
+-- 0. `board` is the panel: each call, a read too, does what the links' connector does with its event. So what holds of any controller
+-- at the end of a link holds of the panel.
+abbrev pub CallIsConnected : Type 0
+CallIsConnected =
+    (e : Seen) (b : Board) (link : Link) (event : Event)
+    → Fits e (b .frame)
+    → DoesBy (called e (onLink b link) (b .frame) event) (onLink b link) (b .frame) (eventAt (board e) (record { state = b; link = link }) event)
+
+-- the calls that carry these items are received as the items given
+pub record ReceivedAsGiven (e : Seen) (way : Way) (s : State) (frame : List ℕ) (list : List Item) : Type 0 where
+  -- they leave the memories, the controls and the frame that doing the items leaves, and nothing half received
+  pub stands : after e s frame (wires way list) ≡ standing (given e s frame list) (resting way (syncAfter Lost list))
+  -- every call is accepted
+  pub accepted : numbersOf e s frame (wires way list) ≡ replicate (length (wires way list)) 0
+  -- and their counts, but for zeros, are those of the items, in order
+  pub counts : countsOf e s frame (wires way list) ≡ given e s frame list .counts
+
+-- 1. Any number of the sender's writes, begun on an idle serial link with chip select high, is received as the bytes given.
+abbrev pub SentIsReceived : Type 0
+SentIsReceived =
+    (e : Seen) (s : State) (frame : List ℕ) (list : List Item)
+    → Fits e frame
+    → s .link ≡ idleOn serial
+    → ReceivedAsGiven e serial s frame list
+
+-- The same of every way, where the items keep the link's DL: 1 for bytes, 0 for half bytes, either for serial.
+abbrev pub WritesAreReceived : Type 0
+WritesAreReceived =
+    (e : Seen) (way : Way) (s : State) (frame : List ℕ) (list : List Item)
+    → Fits e frame
+    → s .link ≡ idleOn way
+    → KeepsDl (board e) way (boardOf s frame) list
+    → ReceivedAsGiven e way s frame list
+
+-- equal apart from link and DL
+pub record SameButLinkAndDl (s t : State) : Type 0 where
+  pub memories : s .memories ≡ t .memories
+  pub controls : withDl true (s .control) ≡ withDl true (t .control)
+
+-- two panels, each with its calls, and lent the same frame
+pub record Agree (e : Seen) (s t : State) (frame : List ℕ) (calls others : List Event) : Type 0 where
+  -- at the end all but link and DL is equal
+  pub states : SameButLinkAndDl (after e s frame calls .state) (after e t frame others .state)
+  -- the frames are equal
+  pub frames : after e s frame calls .frame ≡ after e t frame others .frame
+  -- and so are the counts, but for zeros, in order
+  pub counts : countsOf e s frame calls ≡ countsOf e t frame others
+
+-- 2. The same state over all links: begin equal apart from link and DL, links idle; the lists are equal except bit 4 of function
+-- sets, which keeps each link's DL. Any two of the three ways agree; half bytes with anything in bits 3..0.
+abbrev pub LinksAgree : Type 0
+LinksAgree =
+    (e : Seen) (way other : Way) (s t : State) (frame : List ℕ) (list others : List Item)
+    → Fits e frame
+    → s .link ≡ idleOn way
+    → t .link ≡ idleOn other
+    → SameButLinkAndDl s t
+    → Alike list others
+    → KeepsDl (board e) way (boardOf s frame) list
+    → KeepsDl (board e) other (boardOf t frame) others
+    → Agree e s t frame (wires way list) (wires other others)
+
+-- 3. A list of writes keeps the link's DL where the panel begins with it and bit 4 of every function set is that DL.
+abbrev pub FunctionSetsKeepDl : Type 0
+FunctionSetsKeepDl =
+    (e : Seen) (way : Way) (s : State) (frame : List ℕ) (writes : List WholeWrite)
+    → HasWidth way (s .control)
+    → SetsWidth way writes
+    → KeepsDl (board e) way (boardOf s frame) (items writes)

@@ -1,0 +1,115 @@
+-- Document 01, "Links": the panel as the controller at the end of its link, and what a list of calls answers.
+use Prim.{Unit}
+use Prim.Native.Nat.{ℕ, _≤_, _<_}
+use mathlib.Core.Bool.{Bool, true, false}
+use mathlib.Core.List.{List, [], _∷_, _++_, map, flatten}
+use mathlib.Core.Path.{_≡_}
+use lib.Dec.{eqb}
+use Rattle.base.specs.Bits.{bit}
+use Rattle.base.specs.Choice.{if_then_else_}
+use Rattle.controller.specs.declared.Control.{Control}
+use Rattle.controller.specs.Memories.{Memories}
+use Rattle.controller.specs.Instructions.{withFunction}
+use Rattle.controller.specs.Transfers.{Acted, performed}
+use Rattle.events.specs.declared.Event.{Event}
+use Rattle.links.specs.declared.Link.{Link}
+use Rattle.events.specs.declared.Transfer.{Transfer}
+use Rattle.events.specs.declared.Transfer.the-variants.{Instruct, Write, Status, Read}
+use Rattle.links.specs.Items.{WholeWrite, Item, write, Way, bytes, halves, serial}
+use Rattle.links.specs.Connector.{Answered, Controller, At, does}
+use Rattle.picture.specs.Picture.{Seen, fontsOf, lookOf}
+use Rattle.repaint.specs.Repaint.{repainted, countNamed}
+use Rattle.calls.specs.State.{State, state}
+use Rattle.calls.specs.Calls.{Called, called, Stands}
+
+-- what each call of a sequence leaves and answers
+unfoldable pub answers : Seen → State → List ℕ → List Event → List Called
+answers e s frame [] = []
+answers e s frame (event ∷ events) =
+    called e s frame event ∷ answers e (called e s frame event .state) (called e s frame event .frame) events
+
+abbrev pub numbersOf : Seen → State → List ℕ → List Event → List ℕ
+numbersOf e s frame events = map (λ k. k .number) (answers e s frame events)
+
+-- a count, unless it is 0
+abbrev pub unless0 : ℕ → List ℕ
+unless0 count = if eqb count 0 then [] else count ∷ []
+
+-- the counts that are not 0, in order
+abbrev pub countsOf : Seen → State → List ℕ → List Event → List ℕ
+countsOf e s frame events = flatten (map (λ k. unless0 (k .count)) (answers e s frame events))
+
+-- a panel without its link: the memories, the controls, the frame, and the counts so far that are not 0
+pub record Board : Type 0 where
+  pub memories : Memories
+  pub control : Control
+  pub frame : List ℕ
+  pub counts : List ℕ
+
+-- before any call
+abbrev pub boardOf : State → List ℕ → Board
+boardOf s frame = record { memories = s .memories; control = s .control; frame = frame; counts = [] }
+
+-- a deed was done: the bytes that it names are repainted, and counted
+abbrev pub boardAfter : Seen → Board → Acted → Board
+boardAfter e b a =
+    record {
+      memories = a .memories;
+      control = a .done .control;
+      frame = repainted (fontsOf e) (a .memories) (lookOf (e .phase) (a .done .control)) (a .done .region) (b .frame);
+      counts = b .counts ++ unless0 (countNamed (a .done .control .view) (a .memories .text) (a .done .region));
+    }
+
+abbrev pub answeredBy : Seen → Board → Acted → Answered Board
+answeredBy e b a = record { state = boardAfter e b a; answer = a .done .reply }
+
+-- the panel as the controller at the end of any link
+abbrev pub board : Seen → Controller Board
+board e =
+    record {
+      perform = λ b d. answeredBy e b (performed (b .memories) (b .control) d);
+      dl = λ b. b .control .function .dl;
+    }
+
+-- the items themselves, done in order
+abbrev pub given : Seen → State → List ℕ → List Item → Board
+given e s frame items = does (board e) (boardOf s frame) items
+
+-- a board on a link, and with its frame
+abbrev pub onLink : Board → Link → State
+onLink b link = state (b .memories) (b .control) link
+
+abbrev pub standing : Board → Link → Stands
+standing b link = record { state = onLink b link; frame = b .frame }
+
+-- a list with nothing but writes
+abbrev pub items : List WholeWrite → List Item
+items writes = map write writes
+
+-- the controls with another DL
+abbrev pub withDl : Bool → Control → Control
+withDl dl c = withFunction (record { dl = dl; re = c .function .re; g = c .function .g }) c
+
+-- the DL that a way's link works with: 1 for bytes, 0 for half bytes, either for serial
+abbrev pub HasWidth : Way → Control → Type 0
+HasWidth bytes c = c .function .dl ≡ true
+HasWidth (halves low) c = c .function .dl ≡ false
+HasWidth serial c = Unit {0}
+
+-- bit 4 of each function set, an instruction 20h..3Fh, is this DL
+unfoldable pub SetsDl : Bool → List WholeWrite → Type 0
+SetsDl dl [] = Unit {0}
+SetsDl dl (w ∷ writes) = (w .register ≡ false → 0x20 ≤ w .byte → w .byte < 0x40 → bit 4 (w .byte) ≡ dl) × SetsDl dl writes
+
+-- bit 4 of function sets keeps the link's DL
+abbrev pub SetsWidth : Way → List WholeWrite → Type 0
+SetsWidth bytes writes = SetsDl true writes
+SetsWidth (halves low) writes = SetsDl false writes
+SetsWidth serial writes = Unit {0}
+
+-- a data transfer
+abbrev pub isData : Transfer → Bool
+isData (Instruct byte) = false
+isData (Write byte) = true
+isData Status = false
+isData Read = true

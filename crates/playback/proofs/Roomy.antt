@@ -1,0 +1,53 @@
+-- With 29 bytes for each record the test for room never fails.
+use Prim.Native.Nat.{ℕ, _+_, _*_, _-_, _^_, _≤_, _<_}
+use mathlib.Core.Bool.{Bool, true, false}
+use mathlib.Core.List.{List, [], _∷_}
+use mathlib.Core.Path.{_≡_, refl, ap}
+use native.Mathlib.Omega.{arith}
+use borrow.Author.Tests.{le-leb, lt-ltb}
+use lib.Dec.{eqb}
+use lib.ListN.{length}
+use Rattle.base.specs.Choice.{if_then_else_}
+use Rattle.picture.specs.Picture.{Seen}
+use Rattle.picture.specs.Refusals.{refusalOf}
+use Rattle.calls.specs.State.{State}
+use Rattle.calls.specs.Calls.{Called}
+use Rattle.capture.specs.Record.{number}
+use Rattle.capture.specs.Capture.{Recorded, contents}
+use Rattle.printed.specs.Text.{Answered, line, longestLine, hasRoom}
+use Rattle.printed.proofs.Writing.{decimal-length, line-length, count-digits}
+use Rattle.playback.specs.Records.{recorded}
+use Rattle.playback.specs.Replay.{Replayed, halted, answered, goesOn, endless, bytes, obeyed, replayed}
+use Rattle.playback.specs.Statements.{RoomTellsAll}
+use Rattle.playback.proofs.Once.{recorded-count}
+
+has-room : (rest n : ℕ) → 29 ≤ rest → n < 2 ^ 64 - 1 → hasRoom rest n ≡ true
+unfolding hasRoom
+has-room rest n h l = rw (le-leb (longestLine n) rest (omega (arith, decimal-length 20 n)), lt-ltb n (2 ^ 64 - 1) l)
+
+module _ (e : Seen) (last : ℕ) where
+  roomy :
+      (rest : ℕ) (rs : List Recorded) (s : State) (f : List ℕ) (n : ℕ)
+      → 29 * length rs ≤ rest
+      → n + length rs < 2 ^ 64
+      → obeyed e last (bytes rest) rs s f n ≡ obeyed e last endless rs s f n
+  unfolding obeyed
+  roomy rest [] s f n h l = refl
+  roomy rest (r ∷ rs) s f n h l =
+      rw (has-room rest n (omega arith) (omega arith))
+      (ap (goesOn s f n (r .kind) k) (roomy (rest - length (line n a)) rs (k .state) (k .frame) (n + 1) (omega (arith, short)) (omega arith)))
+    where
+      k : Called
+      k = recorded e (r .kind) (r .value) s f
+
+      a : Answered
+      a = answered (r .kind) k
+
+      short : length (line n a) ≤ 29
+      short = omega (arith, line-length n a, decimal-length 20 n, count-digits (a .count) (recorded-count e (r .kind) (r .value) s f))
+
+pub room-tells-all : RoomTellsAll
+unfolding replayed
+room-tells-all e room capture s f n h l =
+    ap (λ (r : Replayed). if eqb (refusalOf (length f) (length (e .half)) (length (e .full))) 0 then r else halted s f n (refusalOf (length f) (length (e .half)) (length (e .full))))
+    (roomy e (number (contents capture .stop)) room (contents capture .records) s f n h l)

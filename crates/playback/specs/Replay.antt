@@ -1,0 +1,118 @@
+-- Document 01, "Captures": replay goes on until the first refusal, and answers with the place where it stopped.
+use Prim.Native.Nat.{ℕ, _+_, _-_}
+use mathlib.Core.Bool.{Bool, true, false, not}
+use mathlib.Core.List.{List, [], _∷_}
+use lib.ListN.{length}
+use lib.Dec.{eqb}
+use Rattle.base.specs.Choice.{if_then_else_}
+use Rattle.picture.specs.Picture.{Seen}
+use Rattle.picture.specs.Refusals.{refusalOf}
+use Rattle.calls.specs.State.{State}
+use Rattle.panel.specs.Handed.{stateOf}
+use Rattle.calls.specs.Calls.{Called}
+use Rattle.capture.specs.Record.{number}
+use Rattle.capture.specs.Capture.{Recorded, Contents, contents}
+use Rattle.printed.specs.Text.{Answered, answer, line, hasRoom}
+use Rattle.playback.specs.declared.Stop.{Stop}
+use Rattle.playback.specs.Records.{recorded}
+
+-- where a replay stands when it stops: the state, the frame, the records accepted, and the refusal number, 0 at the end; or else
+-- that the record at this place was not carried out, as its line might have had no room
+pub record Ending : Type 0 where
+  pub state : State
+  pub frame : List ℕ
+  pub place : ℕ
+  pub number : ℕ
+  pub full : Bool
+
+abbrev pub endingAt : State → List ℕ → ℕ → ℕ → Ending
+endingAt s frame place number = record { state = s; frame = frame; place = place; number = number; full = false }
+
+-- a replay: the answers of its accepted records, and where it stops
+pub record Replayed : Type 0 where
+  pub answers : List Answered
+  pub ending : Ending
+
+abbrev pub halted : State → List ℕ → ℕ → ℕ → Replayed
+halted s frame place number = record { answers = []; ending = endingAt s frame place number }
+
+-- a record that is not carried out, since its line might have no room
+abbrev pub unroomed : State → List ℕ → ℕ → Replayed
+unroomed s frame place = record { answers = []; ending = record { state = s; frame = frame; place = place; number = 0; full = true } }
+
+abbrev pub answered : ℕ → Called → Answered
+answered kind k = answer kind (k .reply) (k .count)
+
+abbrev pub afterAnswer : Answered → Replayed → Replayed
+afterAnswer a on = record { answers = a ∷ on .answers; ending = on .ending }
+
+-- what a replay has for its lines: a rest of so many bytes; or it writes none, and goes on without end
+pub data Room : Type 0 where
+  endless : Room
+  bytes : ℕ → Room
+
+abbrev pub roomOf : Bool → ℕ → Room
+roomOf telling rest = if telling then bytes rest else endless
+
+-- What a record answers is known only when it has been carried out, so the longest line that it could have is asked to fit before that.
+abbrev pub roomFor : Room → ℕ → Bool
+roomFor endless place = true
+roomFor (bytes rest) place = hasRoom rest place
+
+abbrev pub roomBehind : Room → List ℕ → Room
+roomBehind endless text = endless
+roomBehind (bytes rest) text = bytes (rest - length text)
+
+-- the line of an accepted record
+abbrev pub lineOf : ℕ → ℕ → Called → List ℕ
+lineOf place kind k = line place (answered kind k)
+
+-- an accepted record answers, and the replay goes on; a refused one has no effect
+abbrev pub goesOn : State → List ℕ → ℕ → ℕ → Called → Replayed → Replayed
+goesOn s frame place kind k on =
+    if eqb (k .number) 0 then afterAnswer (answered kind k) on
+    else halted s frame place (k .number)
+
+-- one record after another, each on what the ones before it left; behind the last, what stands there in the capture
+unfoldable pub obeyed : Seen → ℕ → Room → List Recorded → State → List ℕ → ℕ → Replayed
+obeyed e last room [] s frame place = halted s frame place last
+obeyed e last room (r ∷ rs) s frame place =
+    let k : Called = recorded e (r .kind) (r .value) s frame in
+    if not (roomFor room place) then unroomed s frame place
+    else goesOn s frame place (r .kind) k (obeyed e last (roomBehind room (lineOf place (r .kind) k)) rs (k .state) (k .frame) (place + 1))
+
+abbrev pub obeyedAll : Seen → Room → Contents → State → List ℕ → ℕ → Replayed
+obeyedAll e room c s frame place = obeyed e (number (c .stop)) room (c .records) s frame place
+
+-- a replay from a number of accepted records on: refusals 1, 2, 3 before anything is read
+unfoldable pub replayed : Seen → Room → List ℕ → State → List ℕ → ℕ → Replayed
+replayed e room capture s frame place =
+    if eqb (refusalOf (length frame) (length (e .half)) (length (e .full))) 0 then obeyedAll e room (contents capture) s frame place
+    else halted s frame place (refusalOf (length frame) (length (e .half)) (length (e .full)))
+
+-- the last of some answers; where there are none, the one given
+unfoldable pub lastOr : Answered → List Answered → Answered
+lastOr a [] = a
+lastOr a (b ∷ more) = lastOr b more
+
+-- no record was accepted: reply 0, count 0
+abbrev pub unanswered : Answered
+unanswered = answer 0 0 0
+
+-- what is written of a text: all of it, or nothing where lines are not told
+abbrev pub toldBy : Bool → List ℕ → List ℕ
+toldBy telling text = if telling then text else []
+
+-- what replay answers: where it stops, and the reply and count of the last accepted record
+pub record Stopped : Type 0 where
+  pub ending : Ending
+  pub reply : ℕ
+  pub count : ℕ
+
+abbrev pub stopped : Replayed → Stopped
+stopped r = record { ending = r .ending; reply = lastOr unanswered (r .answers) .reply; count = lastOr unanswered (r .answers) .count }
+
+-- what a replay by value leaves
+abbrev pub stopsAt : Stop → List ℕ → Stopped
+stopsAt r frame =
+    record { ending = endingAt (stateOf (r .panel)) frame (r .place) (r .number); reply = r .reply; count = r .count }

@@ -1,0 +1,81 @@
+// One record of a capture, carried out on a panel.
+use events::Event;
+use events::Pin;
+use events::Transfer;
+use panel::Outcome;
+use panel::Panel;
+ghost use mathlib.Core.Path.{_≡_};
+ghost use Rattle.picture.specs.Picture.{seen};
+ghost use Rattle.calls.specs.State.{Valid};
+ghost use Rattle.panel.specs.Handed.{stateOf, handed};
+ghost use Rattle.playback.specs.Records.{eightBits, eventOf, recorded};
+
+// Eight bits of the serial link, highest first. On the other link the first is refused, and none is heard.
+fn eight_bits(
+    panel: Panel,
+    value: u8,
+    frame: &mut [u8],
+    half: &[u8],
+    full: &[u8],
+    phase: bool,
+) -> Outcome
+    requires { ⌜ Valid (stateOf panel) ⌝ }
+    ensures { λ r. ⌜ handed r (now (frame .exit)) ≡ eightBits (seen half full phase) value (stateOf panel) (now (frame .entry)) ⌝ }
+    ensures valid { λ r. ⌜ Valid (stateOf (r .panel)) ⌝ }
+{
+    let first = panel.bit((value >> 7) % 2 == 1, frame, half, full, phase);
+    if first.number != 0 {
+        return first;
+    }
+    let mut next = first.panel;
+    let mut count = first.count;
+    let mut left: u8 = 7;
+    while left > 0 {
+        left -= 1;
+        let outcome = next.bit((value >> left) % 2 == 1, frame, half, full, phase);
+        next = outcome.panel;
+        count += outcome.count;
+    }
+    Outcome {
+        panel: next,
+        number: 0,
+        reply: 0,
+        count,
+    }
+}
+
+// What a record of any other kind than 4 is.
+fn event_of(kind: u8, value: u8) -> Event
+    ensures { λ r. ⌜ r ≡ eventOf kind value ⌝ }
+{
+    match kind {
+        0 => Event::Transfer(Transfer::Instruct(value)),
+        1 => Event::Transfer(Transfer::Write(value)),
+        2 => Event::Transfer(Transfer::Status),
+        3 => Event::Transfer(Transfer::Read),
+        5 => Event::SelectLow,
+        _ => Event::Reset(Pin {
+            parallel: value == 1,
+        }),
+    }
+}
+
+// A record that the capture's reader let pass.
+pub(crate) fn obey(
+    panel: Panel,
+    kind: u8,
+    value: u8,
+    frame: &mut [u8],
+    half: &[u8],
+    full: &[u8],
+    phase: bool,
+) -> Outcome
+    requires { ⌜ Valid (stateOf panel) ⌝ }
+    ensures { λ r. ⌜ handed r (now (frame .exit)) ≡ recorded (seen half full phase) kind value (stateOf panel) (now (frame .entry)) ⌝ }
+    ensures valid { λ r. ⌜ Valid (stateOf (r .panel)) ⌝ }
+{
+    if kind == 4 {
+        return eight_bits(panel, value, frame, half, full, phase);
+    }
+    panel.call(event_of(kind, value), frame, half, full, phase)
+}

@@ -1,0 +1,56 @@
+-- Controls in range are those that their bytes spell, so drawing from the bytes of a state draws the state.
+use Prim.Native.Nat.{ℕ, _<_}
+use mathlib.Core.Bool.{Bool, true, false}
+use mathlib.Core.List.{List, [], _∷_}
+use mathlib.Core.Path.{_≡_, refl}
+use native.Mathlib.Nat.{mod-eq-of-lt}
+use native.Mathlib.Omega.{arith}
+use lib.ListN.{length, getD}
+use Rattle.table.specs.declared.Target.{Target}
+use Rattle.table.specs.declared.Target.the-variants.{Text, Glyph, Graphic}
+use Rattle.controller.specs.declared.Waiting.{Waiting}
+use Rattle.controller.specs.declared.Waiting.the-variants.{Nothing, Row}
+use Rattle.controller.specs.declared.Control.{Control}
+use Rattle.controller.specs.State.{limit, RowInRange, InRange}
+use Rattle.state_bytes.specs.Packed.{flag, targetOf, counterOf, waitingOf, placeOf, viewOf, unpacked, flagByte, targetByte, waitsByte, waitingByte, packed}
+
+flag-read : (on : Bool) → flag (flagByte on) ≡ on
+flag-read true = refl
+flag-read false = refl
+
+target-read : (t : Target) → targetOf (targetByte t) ≡ t
+target-read Text = refl
+target-read Glyph = refl
+target-read Graphic = refl
+
+counter-read : (t : Target) (n : ℕ) → n < limit t → counterOf t n ≡ n
+counter-read Text n h = mod-eq-of-lt h
+counter-read Glyph n h = mod-eq-of-lt h
+counter-read Graphic n h = mod-eq-of-lt h
+
+waiting-read : (w : Waiting) → RowInRange w → waitingOf (flag (waitsByte w)) (waitingByte w) ≡ w
+waiting-read Nothing h = refl
+waiting-read (Row y) h = rw (mod-eq-of-lt h)
+
+-- four lines are the four that are looked at
+lines-read : (l : List Bool) → length l ≡ 4 → getD l 0 false ∷ getD l 1 false ∷ getD l 2 false ∷ getD l 3 false ∷ [] ≡ l
+lines-read [] h = absurd (omega arith)
+lines-read (a ∷ []) h = absurd (omega arith)
+lines-read (a ∷ b ∷ []) h = absurd (omega arith)
+lines-read (a ∷ b ∷ c ∷ []) h = absurd (omega arith)
+lines-read (a ∷ b ∷ c ∷ d ∷ []) h = refl
+lines-read (a ∷ b ∷ c ∷ d ∷ e ∷ l) h = absurd (omega arith)
+
+pub unpacked-packed : (c : Control) → InRange c → unpacked (packed c) ≡ c
+unfolding unpacked packed placeOf viewOf
+unpacked-packed c r =
+    simp (
+      flag-read,
+      target-read,
+      counter-read (c .place .target) (c .place .counter) (r .counter),
+      mod-eq-of-lt (r .row),
+      waiting-read (c .place .waiting) (r .waiting),
+      mod-eq-of-lt (r .scroll),
+      mod-eq-of-lt (r .shift),
+      lines-read (c .view .reversed) (r .lines),
+    )

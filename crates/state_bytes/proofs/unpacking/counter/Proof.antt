@@ -1,0 +1,15 @@
+-- By the target.
+use borrow.Author.Needs.{needs}
+use Rattle.state_bytes.proofs.unpacking.counter.Statement.{statement}
+use Rattle.state_bytes.proofs.unpacking.counter.Tie as tie
+
+pub counter-spec : {M : Type 1} → statement M
+counter-spec =
+    tie.close
+    (tie.spec
+    (λ c. search needs)
+    (λ c. search needs)
+    (λ c. search needs)
+    (λ c. rw (c .enum-told .given .1))
+    (λ c. rw (c .enum-told2 .given .1))
+    (λ c. rw (c .enum-told3 .given .1)))

@@ -1,0 +1,51 @@
+-- The link as ten bytes: 0 parallel or 1 serial; the kind of the open half byte, 0 where none is, and its four bits as they stand on the
+-- wires; where the receiver is; the run of ones; the header bits seen, the read bit, the register bit; the body bits seen, and the data
+-- among them as a number. What does not apply is 0.
+use Prim.Native.Nat.{ℕ}
+use mathlib.Core.Bool.{Bool, false}
+use mathlib.Core.List.{List, [], _∷_}
+use Rattle.base.specs.Choice.{if_then_else_}
+use Rattle.links.specs.declared.Pairing.{Pairing}
+use Rattle.links.specs.declared.Pairing.the-variants.{Empty, Upper, Lower}
+use Rattle.links.specs.declared.Header.{Header}
+use Rattle.links.specs.declared.Header.the-variants.{Begun, WithRead, WithRegister}
+use Rattle.links.specs.declared.Sync.{Sync}
+use Rattle.links.specs.declared.Sync.the-variants.{Lost, Body}
+use Rattle.links.specs.declared.Receiver.{Receiver}
+use Rattle.links.specs.declared.Receiver.the-variants.{Inside, Outside}
+use Rattle.links.specs.declared.Link.{Link}
+use Rattle.links.specs.declared.Link.the-variants.{Parallel, Serial}
+use Rattle.links.specs.Halves.{raised}
+use Rattle.state_bytes.specs.Packed.{flagByte}
+
+-- on the parallel link
+abbrev pub openBytes : ℕ → ℕ → List ℕ
+openBytes kind bits = 0 ∷ kind ∷ bits ∷ 0 ∷ 0 ∷ 0 ∷ 0 ∷ 0 ∷ 0 ∷ 0 ∷ []
+
+-- kinds: 1 instruction write, 2 data write, 3 status read, 4 data read
+abbrev pub pairingPacked : Pairing → List ℕ
+pairingPacked Empty = openBytes 0 0
+pairingPacked (Upper register upper) = openBytes (if register then 2 else 1) (raised upper)
+pairingPacked (Lower register lower) = openBytes (if register then 4 else 3) (raised lower)
+
+-- 1: in a header; a bit that has not come is 0
+abbrev pub insideBytes : ℕ → Bool → Bool → List ℕ
+insideBytes seen read register = 1 ∷ 0 ∷ 0 ∷ 1 ∷ 0 ∷ seen ∷ flagByte read ∷ flagByte register ∷ 0 ∷ 0 ∷ []
+
+abbrev pub headerPacked : Header → List ℕ
+headerPacked Begun = insideBytes 0 false false
+headerPacked (WithRead read) = insideBytes 1 read false
+headerPacked (WithRegister read register) = insideBytes 2 read register
+
+-- 0: out of sync; 2: in a body
+abbrev pub outsidePacked : ℕ → Sync → List ℕ
+outsidePacked run Lost = 1 ∷ 0 ∷ 0 ∷ 0 ∷ run ∷ 0 ∷ 0 ∷ 0 ∷ 0 ∷ 0 ∷ []
+outsidePacked run (Body register seen byte) = 1 ∷ 0 ∷ 0 ∷ 2 ∷ run ∷ 0 ∷ 0 ∷ flagByte register ∷ seen ∷ byte ∷ []
+
+abbrev pub receiverPacked : Receiver → List ℕ
+receiverPacked (Inside header) = headerPacked header
+receiverPacked (Outside run sync) = outsidePacked run sync
+
+abbrev pub linkPacked : Link → List ℕ
+linkPacked (Parallel pairing) = pairingPacked pairing
+linkPacked (Serial receiver) = receiverPacked receiver

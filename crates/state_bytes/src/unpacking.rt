@@ -1,0 +1,114 @@
+// The controls that 23 bytes spell, in the order in which `unpacked` reads them. A byte that is out of range counts by the bits that it
+// should have.
+use controller::Control;
+use controller::Entry;
+use controller::Function;
+use controller::Place;
+use controller::Shown;
+use controller::View;
+use controller::Waiting;
+use table::Target;
+ghost use mathlib.Core.Path.{_≡_};
+ghost use Rattle.state_bytes.specs.Packed.{flag, targetOf, counterOf, waitingOf, placeOf, viewOf, unpacked};
+
+fn flag(byte: u8) -> bool
+    ensures { λ r. ⌜ r ≡ flag byte ⌝ }
+{
+    byte % 2 == 1
+}
+
+fn target(byte: u8) -> Target
+    ensures { λ r. ⌜ r ≡ targetOf byte ⌝ }
+{
+    if byte % 4 == 0 {
+        return Target::Text;
+    }
+    if byte % 4 == 1 {
+        return Target::Glyph;
+    }
+    Target::Graphic
+}
+
+// The counter has 6 bits for text and glyph memory, 4 for graphic memory.
+fn counter(target: Target, byte: u8) -> u8
+    ensures { λ r. ⌜ r ≡ counterOf target byte ⌝ }
+{
+    match target {
+        Target::Text => byte % 64,
+        Target::Glyph => byte % 64,
+        Target::Graphic => byte % 16,
+    }
+}
+
+fn waiting(waits: bool, row: u8) -> Waiting
+    ensures { λ r. ⌜ r ≡ waitingOf waits row ⌝ }
+{
+    if waits {
+        return Waiting::Row(row % 64);
+    }
+    Waiting::Nothing
+}
+
+fn place(bytes: &[u8; 23]) -> Place
+    ensures { λ r. ⌜ r ≡ placeOf (now (bytes .entry)) ⌝ }
+{
+    let target = target(bytes[0]);
+    let counter = counter(target, bytes[1]);
+    let low = flag(bytes[3]);
+    let dummy = flag(bytes[4]);
+    let waits = flag(bytes[5]);
+    let waiting = waiting(waits, bytes[6]);
+    Place {
+        target,
+        counter,
+        row: bytes[2] % 64,
+        low,
+        dummy,
+        waiting,
+    }
+}
+
+fn view(bytes: &[u8; 23]) -> View
+    ensures { λ r. ⌜ r ≡ viewOf (now (bytes .entry)) ⌝ }
+{
+    View {
+        scroll: bytes[17] % 64,
+        shift: bytes[18] % 16,
+        reversed: [
+            bytes[19] % 2 == 1,
+            bytes[20] % 2 == 1,
+            bytes[21] % 2 == 1,
+            bytes[22] % 2 == 1,
+        ],
+    }
+}
+
+pub fn unpack(bytes: &[u8; 23]) -> Control
+    ensures { λ r. ⌜ r ≡ unpacked (now (bytes .entry)) ⌝ }
+{
+    let place = place(bytes);
+    let view = view(bytes);
+    let id = flag(bytes[7]);
+    let s = flag(bytes[8]);
+    let display = flag(bytes[9]);
+    let cursor = flag(bytes[10]);
+    let blink = flag(bytes[11]);
+    let dl = flag(bytes[12]);
+    let re = flag(bytes[13]);
+    let g = flag(bytes[14]);
+    let sr = flag(bytes[15]);
+    let standby = flag(bytes[16]);
+    Control {
+        place,
+        entry: Entry { id, s },
+        shown: Shown {
+            display,
+            cursor,
+            blink,
+        },
+        function: Function { dl, re, g },
+        sr,
+        view,
+        standby,
+    }
+}
