@@ -7,7 +7,7 @@ use Rattle.table.specs.Table.{said}
 use Rattle.controller.specs.declared.Control.{Control}
 use Rattle.controller.specs.declared.Done.{Done}
 use Rattle.controller.specs.Memories.{Memories}
-use Rattle.controller.specs.State.{InRange}
+use Rattle.controller.specs.State.{InRange, remade}
 use Rattle.controller.specs.Instructions.{obeyed, modes}
 use Rattle.controller.specs.Data.{movedOn}
 use Rattle.controller.specs.Transfers.{Acted, acted, executed, written, readOut, statusRead, carriedOut, performed}
@@ -46,7 +46,7 @@ module _ (m : Memories) (c : Control) (r : InRange c) where
   unfolding performed
   performed-fit Nothing = record { control = r; region = tt }
   performed-fit (Whole t) = carriedOut-fit t
-  performed-fit (Fresh pin) = record { control = fresh-in-range; region = tt }
+  performed-fit (Fresh pin) = record { control = fresh-in-range (remade c pin); region = tt }
 
   -- in the code's form
   pub done-fit : (d : Deed) (after : Memories) (done : Done) → acted after done ≡ performed m c d → Fit done

@@ -14,6 +14,7 @@ use Rattle.table.specs.declared.Instruction.the-variants.{Ignored, Clear, Home,
 use Rattle.table.specs.Table.{said}
 use Rattle.events.specs.declared.Transfer.{Transfer}
 use Rattle.events.specs.declared.Transfer.the-variants.{Instruct, Write, Status, Read}
+use Rattle.events.specs.declared.Made.{Made}
 use Rattle.events.specs.declared.Deed.{Deed}
 use Rattle.events.specs.declared.Deed.the-variants as deed
 use Rattle.controller.specs.declared.Waiting.{Waiting}
@@ -23,7 +24,7 @@ use Rattle.controller.specs.declared.View.{View}
 use Rattle.controller.specs.declared.Control.{Control}
 use Rattle.controller.specs.declared.Done.{Done}
 use Rattle.controller.specs.Memories.{Memories, memories, freshMemories}
-use Rattle.controller.specs.State.{fresh, limit, RowInRange, InRange, Valid, Within}
+use Rattle.controller.specs.State.{freshControl, remade, limit, RowInRange, InRange, Valid, Within}
 use Rattle.controller.specs.Instructions.{withWaiting, pointed, stepped, displayMoved, graphicAddressed, reverseToggled, scrolled, obeyed, clears, cleared, modes}
 use Rattle.controller.specs.Data.{stored, nextCounter, moved, shifts, movedOn, dummyRead}
 use Rattle.controller.specs.Transfers.{Acted, executed, written, readOut, statusRead, carriedOut, performed}
@@ -56,9 +57,9 @@ in-range c p v =
       lines = v .lines;
     }
 
-pub fresh-in-range : InRange fresh
-unfolding fresh
-fresh-in-range =
+pub fresh-in-range : (made : Made) → InRange (freshControl made)
+unfolding freshControl
+fresh-in-range made =
     record {
       counter = omega arith;
       row = omega arith;
@@ -68,9 +69,9 @@ fresh-in-range =
       lines = refl;
     }
 
-pub fresh-valid : Valid freshMemories fresh
+pub fresh-valid : (made : Made) → Valid freshMemories (freshControl made)
 unfolding freshMemories
-fresh-valid = record { control = fresh-in-range; text = refl; glyph = refl; graphic = refl }
+fresh-valid made = record { control = fresh-in-range made; text = refl; glyph = refl; graphic = refl }
 
 -- instructions
 
@@ -232,4 +233,4 @@ module _ (m : Memories) (c : Control) (v : Valid m c) where
   unfolding performed
   performed-valid deed.Nothing = v
   performed-valid (deed.Whole t) = carriedOut-valid t
-  performed-valid (deed.Fresh pin) = fresh-valid
+  performed-valid (deed.Fresh pin) = fresh-valid (remade c pin)

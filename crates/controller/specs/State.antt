@@ -4,6 +4,8 @@ use Prim.{Unit}
 use mathlib.Core.Bool.{true, false}
 use mathlib.Core.Path.{_≡_}
 use lib.ListN.{length, replicate}
+use Rattle.events.specs.declared.Made.{Made}
+use Rattle.events.specs.declared.Pin.{Pin}
 use Rattle.table.specs.declared.Target.{Target}
 use Rattle.table.specs.declared.Target.the-variants.{Text, Glyph, Graphic}
 use Rattle.table.specs.declared.Instruction.{Instruction}
@@ -24,8 +26,8 @@ abbrev pub freshView : View
 freshView = record { scroll = 0; shift = 0; reversed = replicate 4 false }
 
 -- I/D 1, S 0; display, cursor, blink, RE, SR, G 0; DL 1; no standby
-unfoldable pub fresh : Control
-fresh =
+unfoldable pub freshControl : Made → Control
+freshControl made =
     record {
       place = freshPlace;
       entry = record { id = true; s = false };
@@ -35,6 +37,10 @@ fresh =
       view = freshView;
       standby = false;
     }
+
+-- reset takes the interface pin: what the state keeps, and the pin, are what the next state is made with
+abbrev pub remade : Control → Pin → Made
+remade c pin = record { parallel = pin .parallel }
 
 -- the counter has 6 bits for text and glyph memory, 4 for graphic memory
 abbrev pub limit : Target → ℕ

@@ -6,13 +6,14 @@ use Rattle.table.specs.Table.{said}
 use Rattle.table.specs.declared.Instruction.{Instruction}
 use Rattle.events.specs.declared.Transfer.{Transfer}
 use Rattle.events.specs.declared.Transfer.the-variants.{Instruct, Write, Status, Read}
+use Rattle.events.specs.declared.Made.{Made}
 use Rattle.events.specs.declared.Deed.{Deed}
 use Rattle.events.specs.declared.Deed.the-variants as deed
 use Rattle.controller.specs.declared.Control.{Control}
 use Rattle.controller.specs.declared.Region.the-variants.{Nothing, Whole}
 use Rattle.controller.specs.declared.Done.{Done}
 use Rattle.controller.specs.Memories.{Memories, memories, freshMemories}
-use Rattle.controller.specs.State.{fresh}
+use Rattle.controller.specs.State.{freshControl, remade}
 use Rattle.controller.specs.Instructions.{obeyed, cleared, modes}
 use Rattle.controller.specs.Data.{stored, found, movedOn, dummyRead}
 use Rattle.controller.specs.Named.{instructionNames, writeNames, readNames}
@@ -69,11 +70,11 @@ carriedOut m c Status = acted m (statusRead c)
 carriedOut m c Read = acted m (readOut m c)
 
 -- everything as fresh, and every byte is named
-abbrev pub restarted : Acted
-restarted = acted freshMemories (record { control = fresh; reply = 0; region = Whole })
+abbrev pub restarted : Made → Acted
+restarted made = acted freshMemories (record { control = freshControl made; reply = 0; region = Whole })
 
 -- what of an event reaches the controller: nothing, and the state stays; a whole transfer; or reset
 unfoldable pub performed : Memories → Control → Deed → Acted
 performed m c deed.Nothing = acted m (record { control = c; reply = 0; region = Nothing })
 performed m c (deed.Whole t) = carriedOut m c t
-performed m c (deed.Fresh pin) = restarted
+performed m c (deed.Fresh pin) = restarted (remade c pin)

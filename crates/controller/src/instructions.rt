@@ -6,12 +6,14 @@ use crate::Place;
 use crate::Shown;
 use crate::View;
 use crate::Waiting;
+use events::Made;
+use events::Pin;
 use table::Instruction;
 use table::Modes;
 use table::Target;
 ghost use mathlib.Core.Path.{_≡_};
 ghost use Prim.Native.Nat.{_<_};
-ghost use Rattle.controller.specs.State.{InRange, Within, fresh};
+ghost use Rattle.controller.specs.State.{InRange, Within, freshControl, remade};
 ghost use Rattle.controller.specs.Instructions.{withPlace, withEntry, withShown, withFunction, withSr, withView, withStandby, pointed, withWaiting, begun, graphicAddressed, stepped, displayMoved, home, functionSet, reverseToggled, scrolled, obeyed, clears, modes};
 
 // The counter one to the right or to the left, modulo 64.
@@ -124,8 +126,9 @@ impl Function {
 }
 
 impl Control {
-    pub fn fresh() -> Control
-        ensures { λ r. ⌜ r ≡ fresh ⌝ }
+    // The controls of a panel that has just been made. So far nothing that it is made with shows in them.
+    pub fn fresh(made: Made) -> Control
+        ensures { λ r. ⌜ r ≡ freshControl made ⌝ }
     {
         Control {
             place: Place {
@@ -154,6 +157,15 @@ impl Control {
                 reversed: [false; 4],
             },
             standby: false,
+        }
+    }
+
+    // What reset makes the next state with: what this one keeps, and the pin.
+    pub fn remade(self, pin: Pin) -> Made
+        ensures { λ r. ⌜ r ≡ remade self pin ⌝ }
+    {
+        Made {
+            parallel: pin.parallel,
         }
     }
 

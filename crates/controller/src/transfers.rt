@@ -9,6 +9,7 @@ use crate::named::instruction_names;
 use crate::named::read_names;
 use crate::named::write_names;
 use events::Deed;
+use events::Made;
 use events::Transfer;
 use table::Instruction;
 ghost use mathlib.Core.Path.{_≡_};
@@ -121,14 +122,19 @@ fn carry_out(
 }
 
 // Everything as fresh.
-fn restart(text: &mut [u8; 128], glyph: &mut [u8; 128], graphic: &mut [u8; 2048]) -> Done
-    ensures { λ r. ⌜ acted (after text glyph graphic) r ≡ restarted ⌝ }
+fn restart(
+    text: &mut [u8; 128],
+    glyph: &mut [u8; 128],
+    graphic: &mut [u8; 2048],
+    made: Made,
+) -> Done
+    ensures { λ r. ⌜ acted (after text glyph graphic) r ≡ restarted made ⌝ }
 {
     *text = [0x20u8; 128];
     *glyph = [0u8; 128];
     *graphic = [0u8; 2048];
     Done {
-        control: Control::fresh(),
+        control: Control::fresh(made),
         reply: 0,
         region: Region::Whole,
     }
@@ -152,6 +158,6 @@ pub fn perform(
             region: Region::Nothing,
         },
         Deed::Whole(transfer) => carry_out(text, glyph, graphic, control, transfer),
-        Deed::Fresh(_) => restart(text, glyph, graphic),
+        Deed::Fresh(pin) => restart(text, glyph, graphic, control.remade(pin)),
     }
 }

@@ -8,7 +8,7 @@ use lib.ListN.{length, replicate}
 use Rattle.base.specs.Painting.{count}
 use Rattle.table.specs.Table.{rowOf, said}
 use Rattle.controller.specs.Memories.{freshMemories}
-use Rattle.controller.specs.State.{fresh}
+use Rattle.controller.specs.State.{freshControl}
 use Rattle.controller.specs.Instructions.{obeyed}
 use Rattle.controller.specs.Data.{stored, found, moved, movedOn}
 use Rattle.controller.specs.Glass.{shownRow, shownWord}
@@ -87,19 +87,19 @@ map-told f (k ∷ ks) = ap (λ (more : List _). f (told k) ∷ more) (map-told f
 -- what is observed without the frame
 abbrev toldOf : Row → Observed
 toldOf r =
-    let all = allTold (freshState (r .parallel)) (r .calls) in
+    let all = allTold (freshState (r .made)) (r .calls) in
     record {
       replies = map (λ k. k .reply) all;
       counts = map (λ k. k .count) all;
       numbers = map (λ k. k .number) all;
-      end = lastState (freshState (r .parallel)) (r .calls);
+      end = lastState (freshState (r .made)) (r .calls);
     }
 
 observed-told : (r : Row) → Fits zeroFonts (replicate (r .frame) 0) → observed r ≡ toldOf r
 observed-told r fits =
-    let answered = answers zeroFonts (freshState (r .parallel)) (replicate (r .frame) 0) (r .calls) in
-    let all = all-told zeroFonts (r .calls) (freshState (r .parallel)) (replicate (r .frame) 0) fits in
-    let last = last-state zeroFonts (r .calls) (freshState (r .parallel)) (replicate (r .frame) 0) fits in
+    let answered = answers zeroFonts (freshState (r .made)) (replicate (r .frame) 0) (r .calls) in
+    let all = all-told zeroFonts (r .calls) (freshState (r .made)) (replicate (r .frame) 0) fits in
+    let last = last-state zeroFonts (r .calls) (freshState (r .made)) (replicate (r .frame) 0) fits in
     rw (map-told (λ k. k .reply) answered, map-told (λ k. k .count) answered, map-told (λ k. k .number) answered, all, last)
 
 -- a row holds without its frame where the frame fits; where it does not, no frame is painted
@@ -121,7 +121,7 @@ all-hold [] h = tt
 all-hold (r ∷ rows) h = (holds r (h .0), all-hold rows (h .1))
 
 rows-hold : AllRows table
-unfolding AllRows Holds AllRead table allTold lastState tells answers called takenBy byWidth performed carriedOut executed written readOut statusRead obeyed said rowOf stored found moved movedOn instructionNames writeNames readNames covers inCell shownRow shownWord named countNamed count refusalOf fresh freshMemories freshState bitsOf heard counted afterHeader headerBit bodyBit completed numberOf
+unfolding AllRows Holds AllRead table allTold lastState tells answers called takenBy byWidth performed carriedOut executed written readOut statusRead obeyed said rowOf stored found moved movedOn instructionNames writeNames readNames covers inCell shownRow shownWord named countNamed count refusalOf freshControl freshMemories freshState bitsOf heard counted afterHeader headerBit bodyBit completed numberOf
 rows-hold = (
   inl (refl, (refl, tt)),
   (

@@ -20,6 +20,7 @@ use Rattle.links.specs.Idle.{idle}
 use Rattle.links.specs.Sender.{threeBytes, leaving, sent}
 use Rattle.picture.specs.Picture.{Seen, pictured}
 use Rattle.picture.specs.Refusals.{leaves, drawn}
+use Rattle.controller.specs.State.{remade}
 use Rattle.calls.specs.State.{State, state, freshState}
 use Rattle.calls.specs.Calls.{Called, Fits, called}
 use Rattle.demands.specs.Agreement.{CallIsConnected, SentIsReceived, WritesAreReceived, LinksAgree, FunctionSetsKeepDl}
@@ -74,10 +75,10 @@ abbrev pub RepliesToReads : Type 0
 RepliesToReads =
     (e : Seen) (s : State) (frame : List ℕ) (call : Event) → isRead call ≡ false → called e s frame call .reply ≡ 0
 
--- Reset gives a fresh state, with its pin.
+-- Reset gives a fresh state, of what the state keeps and the pin.
 abbrev pub ResetIsFresh : Type 0
 ResetIsFresh =
-    (e : Seen) (s : State) (frame : List ℕ) (pin : Pin) → Fits e frame → called e s frame (Reset pin) .state ≡ freshState (pin .parallel)
+    (e : Seen) (s : State) (frame : List ℕ) (pin : Pin) → Fits e frame → called e s frame (Reset pin) .state ≡ freshState (remade (s .control) pin)
 
 -- Chip select low, on a serial link, leaves all but the link, and the link idle.
 abbrev pub SelectLowIdles : Type 0

@@ -18,6 +18,7 @@ use Rattle.table.specs.declared.Target.the-variants.{Glyph, Graphic}
 use Rattle.events.specs.declared.Deed.the-variants.{Whole}
 use Rattle.picture.specs.Picture.{Seen, pictured}
 use Rattle.repaint.specs.Repaint.{named}
+use Rattle.events.specs.declared.Made.{Made}
 use Rattle.calls.specs.State.{State, freshState, Valid}
 use Rattle.calls.specs.Calls.{takenOn, reaching, Fits, called, after}
 use Rattle.demands.specs.Wires.{isData}
@@ -90,7 +91,7 @@ GraphicAtMost1 =
 
 -- a fresh panel is valid, and every call hands on a valid state
 abbrev pub FreshIsValid : Type 0
-FreshIsValid = (parallel : Bool) → Valid (freshState parallel)
+FreshIsValid = (made : Made) → Valid (freshState made)
 
 abbrev pub StaysValid : Type 0
 StaysValid = (e : Seen) (s : State) (frame : List ℕ) (calls : List Event) → Valid s → Valid (after e s frame calls .state)

@@ -14,6 +14,7 @@ use Rattle.links.specs.Items.{bitsOf}
 use Rattle.glyph.specs.declared.Code.the-variants.{Number}
 use Rattle.glyph.specs.Numbering.{numberOf}
 use Rattle.picture.specs.Picture.{Seen}
+use Rattle.events.specs.declared.Made.{Made}
 use Rattle.calls.specs.State.{State, freshState}
 use Rattle.calls.specs.Calls.{after}
 use Rattle.demands.specs.Wires.{answers}
@@ -47,22 +48,22 @@ pub data Reading : Type 0 where
   nothingStored : Reading
   glyphNumber : ℕ → ℕ → ℕ → Reading
 
--- a row: its case, the link that the panel is made with, the frame's length, the calls, and the readings
+-- a row: its case, what the panel is made with, the frame's length, the calls, and the readings
 pub record Row : Type 0 where
   pub case : ℕ
-  pub parallel : Bool
+  pub made : Made
   pub frame : ℕ
   pub calls : List Event
   pub readings : List Reading
 
 abbrev pub row : ℕ → List Event → List Reading → Row
-row case calls readings = record { case = case; parallel = true; frame = 1024; calls = calls; readings = readings }
+row case calls readings = record { case = case; made = record { parallel = true }; frame = 1024; calls = calls; readings = readings }
 
 abbrev pub serialRow : ℕ → List Event → List Reading → Row
-serialRow case calls readings = record { case = case; parallel = false; frame = 1024; calls = calls; readings = readings }
+serialRow case calls readings = record { case = case; made = record { parallel = false }; frame = 1024; calls = calls; readings = readings }
 
 abbrev pub framed : ℕ → ℕ → List Event → List Reading → Row
-framed case length calls readings = record { case = case; parallel = true; frame = length; calls = calls; readings = readings }
+framed case length calls readings = record { case = case; made = record { parallel = true }; frame = length; calls = calls; readings = readings }
 
 unfoldable pub table : List Row
 table =
@@ -99,12 +100,12 @@ pub record Observed : Type 0 where
 
 abbrev pub observed : Row → Observed
 observed r =
-    let answered = answers zeroFonts (freshState (r .parallel)) (replicate (r .frame) 0) (r .calls) in
+    let answered = answers zeroFonts (freshState (r .made)) (replicate (r .frame) 0) (r .calls) in
     record {
       replies = map (λ k. k .reply) answered;
       counts = map (λ k. k .count) answered;
       numbers = map (λ k. k .number) answered;
-      end = after zeroFonts (freshState (r .parallel)) (replicate (r .frame) 0) (r .calls) .state;
+      end = after zeroFonts (freshState (r .made)) (replicate (r .frame) 0) (r .calls) .state;
     }
 
 -- a word of a memory, of its two halves

@@ -14,6 +14,7 @@ use Rattle.picture.specs.Refusals as refusals
 use Rattle.picture.specs.Refusals.{Drawn, drawn}
 use Rattle.events.specs.declared.Event.{Event}
 use Rattle.calls.specs.declared.Answer as lent
+use Rattle.events.specs.declared.Made.{Made}
 use Rattle.calls.specs.State.{State, freshState}
 use Rattle.calls.specs.Calls.{Called, called, left}
 use Rattle.panel.specs.declared.Panel.{Panel}
@@ -151,7 +152,7 @@ pub data PublicCall : Type 0 where
   pbm : PublicCall
 
 abbrev pub contractOf : PublicCall → Contract
-contractOf fresh = record { Input = Bool; Outcome = Panel; Left = State; leaves = stateOf; means = freshState }
+contractOf fresh = record { Input = Made; Outcome = Panel; Left = State; leaves = stateOf; means = freshState }
 contractOf call =
     record {
       Input = Given Panel;

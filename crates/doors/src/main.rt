@@ -1,9 +1,9 @@
 // Runs document 01's readings 3 and 5 through the panel's calls, with their counts, and every refusal of these calls. Beside a refusal
 // it prints how much of the lent frame was changed, and what a right call then answers on the panel that was handed on.
+use events::Made;
 use events::Pin;
-use libc::STDOUT_FILENO;
 use events::Transfer;
-use panel::Made;
+use libc::STDOUT_FILENO;
 use panel::Outcome;
 use panel::Panel;
 ghost use Prim.Native.Nat.{_≤_};

@@ -1,5 +1,6 @@
 // Prints the numbers of the first and the last code of the full font, and the answers to a frame that is a byte too short or too long.
 use controller::Control;
+use events::Made;
 use glyph::Code;
 use glyph::numbering::number;
 use libc::STDOUT_FILENO;
@@ -31,7 +32,7 @@ fn print_drawing(frame: &mut [u8]) {
         &text,
         &glyph,
         &graphic,
-        Control::fresh(),
+        Control::fresh(Made { parallel: true }),
         frame,
         &half,
         &full,

@@ -5,6 +5,7 @@ use controller::transfers::execute;
 use controller::transfers::read;
 use controller::transfers::status;
 use controller::transfers::write;
+use events::Made;
 use libc::STDOUT_FILENO;
 ghost use Rattle.controller.specs.State.{InRange};
 
@@ -69,7 +70,7 @@ fn reading(label: &[u8], script: &[u8]) {
     let mut text = [0x20u8; 128];
     let mut glyph = [0u8; 128];
     let mut graphic = [0u8; 2048];
-    let mut control = Control::fresh();
+    let mut control = Control::fresh(Made { parallel: true });
     io::write_all(STDOUT_FILENO, label);
     let pairs = script.len() / 2;
     for i in 0..pairs {

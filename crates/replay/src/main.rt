@@ -1,10 +1,10 @@
 // Replays a capture from standard input, and prints a line for each accepted record and one for the end.
 // What is read and written is no matter of a contract; the lines are those of `transcript`. What fails is said on standard
 // error, where it fails, and is never taken for the end of the capture.
+use events::Made;
 use libc::STDERR_FILENO;
 use libc::STDIN_FILENO;
 use libc::STDOUT_FILENO;
-use panel::Made;
 use panel::Panel;
 use playback::Told;
 ghost use Prim.Native.Nat.{_+_, _/_, _≤_};

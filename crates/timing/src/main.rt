@@ -2,11 +2,11 @@
 // call by value; `lent`, the same on lent memories; `copy`, a copy of the state alone; `draw`, the whole picture.
 // Prints a number that depends on all that was done, so that none of it can be left out.
 use controller::Control;
-use libc::STDOUT_FILENO;
 use events::Event;
-use links::Link;
+use events::Made;
 use events::Transfer;
-use panel::Made;
+use libc::STDOUT_FILENO;
+use links::Link;
 use panel::Panel;
 ghost use Prim.Native.Nat.{_<_, _≤_};
 ghost use mathlib.Core.Path.{_≡_};
@@ -43,7 +43,7 @@ fn on_lent() -> u64 {
     let mut text = [0x20u8; 128];
     let mut glyph = [0u8; 128];
     let mut graphic = [0u8; 2048];
-    let mut control = Control::fresh();
+    let mut control = Control::fresh(Made { parallel: true });
     let mut link = links::idle(true);
     let mut frame = [0u8; 1024];
     let half = [0u8; 2048];

@@ -21,7 +21,7 @@ reading-spec =
     μ-loop
     (λ c κs. search needs)
     (λ c κs. search needs)
-    (λ c. (omega arith, rw (c .before .fresh .ensures) fresh-in-range))
+    (λ c. (omega arith, rw (c .before .fresh .ensures) (fresh-in-range _)))
     (λ c. search needs)
     (λ c. search needs)
     (λ c. search needs)

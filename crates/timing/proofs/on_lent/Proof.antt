@@ -23,7 +23,7 @@ on-lent-spec =
     μ-loop
     (λ c κs. search needs)
     (λ c κs. search needs)
-    (λ c. (omega arith, rw (c .before .fresh .ensures) fresh-in-range, search needs))
+    (λ c. (omega arith, rw (c .before .fresh .ensures) (fresh-in-range _), search needs))
     (λ c. search needs)
     (λ c. sym (c .before .before .before .before .before .loop .inv .2))
     (λ c. search needs)
