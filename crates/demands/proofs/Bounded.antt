@@ -33,11 +33,7 @@ use Rattle.repaint.specs.Repaint.{named, countNamed}
 use Rattle.repaint.proofs.Counts.{count-cells, count-glyph, count-graphic, count-nothing}
 use Rattle.calls.specs.State.{State}
 use Rattle.calls.specs.Calls.{Called, unlessOther, takenOn, reaching, called}
-use Rattle.demands.specs.Wires.{isData}
-
--- the count of what a transfer names
-abbrev pub countOf : Acted → ℕ
-countOf a = countNamed (a .done .control .view) (a .memories .text) (a .done .region)
+use Rattle.demands.specs.Wires.{countOf, isData}
 
 -- with S = 0 no word shifts the display
 unshifted : (c : Control) → c .entry .s ≡ false → shifts c ≡ false

@@ -25,12 +25,12 @@ use Rattle.events.specs.declared.Transfer.the-variants.{Instruct, Write, Status
 use Rattle.events.specs.declared.Deed.{Deed}
 use Rattle.events.specs.declared.Deed.the-variants.{Nothing, Whole, Fresh}
 use Rattle.links.specs.Halves as halves
-use Rattle.links.specs.Items.{SameButBit4, same, functionSets}
+use Rattle.links.specs.Items.{WholeWrite, write, deed, SameButBit4, same, functionSets}
 use Rattle.links.specs.Connector.{act}
 use Rattle.links.specs.Statements.{Respected}
 use Rattle.picture.specs.Picture.{Seen, byteAt, effectsOf}
-use Rattle.repaint.specs.Repaint.{repainted, countNamed, named}
-use Rattle.demands.specs.Wires.{Board, boardAfter, board, withDl}
+use Rattle.repaint.specs.Repaint.{repainted, named}
+use Rattle.demands.specs.Wires.{Board, countOf, boardAfter, board, withDl}
 
 -- all but DL of what a transfer leaves, and of a board
 abbrev pub actedButDl : Acted → Acted
@@ -38,7 +38,7 @@ actedButDl a =
     acted (a .memories) (record { control = withDl true (a .done .control); reply = a .done .reply; region = a .done .region })
 
 abbrev pub boardButDl : Board → Board
-boardButDl b = record { memories = b .memories; control = withDl true (b .control); frame = b .frame; counts = b .counts }
+boardButDl b = record { memories = b .memories; control = withDl true (b .control); frame = b .frame }
 
 -- the byte of a function set says the same for RE and G as another that differs in bit 4 alone
 functionSet-said : (m : Modes) (b : ℕ) → 0x20 ≤ b → b < 0x40 → said m b ≡ functionSet b
@@ -130,7 +130,7 @@ performed-but-dl m c (Fresh pin) = refl
 
 -- the picture and the named bytes do not look at DL
 boardAfter-but-dl : (e : Seen) (b : Board) (a : Acted) → boardButDl (boardAfter e b a) ≡ boardButDl (boardAfter e b (actedButDl a))
-unfolding repainted countNamed named byteAt effectsOf
+unfolding repainted named byteAt effectsOf
 boardAfter-but-dl e b a = refl
 
 module _ (e : Seen) where
@@ -153,6 +153,31 @@ module _ (e : Seen) where
   deed-but-dl s d =
       acted-but-dl s (performed (s .memories) (s .control) d) (performed (s .memories) (withDl true (s .control)) d)
       (performed-but-dl (s .memories) (s .control) d)
+
+  -- two writes alike, on two such boards, count the same and leave such boards
+  module _ (s t : Board) (same-board : boardButDl s ≡ boardButDl t) where
+    pub write-agrees : (w v : WholeWrite) → w .register ≡ v .register → SameButBit4 (w .register) (w .byte) (v .byte) →
+        boardButDl (act (board e) s (w .register) (w .byte)) ≡ boardButDl (act (board e) t (v .register) (v .byte))
+    write-agrees w v p q =
+        act-but-dl s q
+        ∙ ap (λ (x : Board). boardButDl (act (board e) x (w .register) (v .byte))) same-board
+        ∙ sym (act-but-dl t {register = w .register} {b = v .byte} same)
+        ∙ ap (λ (r : Bool). boardButDl (act (board e) t r (v .byte))) p
+
+    pub write-count-agrees : (w v : WholeWrite) → w .register ≡ v .register → SameButBit4 (w .register) (w .byte) (v .byte) →
+        countOf (performed (s .memories) (s .control) (deed (write w))) ≡ countOf (performed (t .memories) (t .control) (deed (write v)))
+    unfolding performed
+    write-count-agrees w v p q =
+        ap countOf (carriedOut-but-dl (s .memories) (s .control) q)
+        ∙ ap (λ (x : Board). countOf (carriedOut (x .memories) (x .control) (halves.writing (w .register) (v .byte)))) same-board
+        ∙ sym (ap countOf (carriedOut-but-dl (t .memories) (t .control) {register = w .register} {b = v .byte} same))
+        ∙ ap (λ (r : Bool). countOf (carriedOut (t .memories) (t .control) (halves.writing r (v .byte)))) p
+
+    pub deed-count-agrees : (d : Deed) → countOf (performed (s .memories) (s .control) d) ≡ countOf (performed (t .memories) (t .control) d)
+    deed-count-agrees d =
+        ap countOf (performed-but-dl (s .memories) (s .control) d)
+        ∙ ap (λ (x : Board). countOf (performed (x .memories) (x .control) d)) same-board
+        ∙ sym (ap countOf (performed-but-dl (t .memories) (t .control) d))
 
   pub board-respects : Respected (board e) (λ s t. boardButDl s ≡ boardButDl t)
   board-respects = record {

@@ -29,10 +29,11 @@ use Rattle.picture.proofs.CellRows.{picture-at}
 use Rattle.picture.proofs.Accepted as sizes
 use Rattle.repaint.specs.Repaint.{named, repainted, countNamed}
 use Rattle.calls.specs.State.{State, Valid}
-use Rattle.calls.specs.Calls.{Called, unlessOther, takenOn, reaching, Fits, called, after}
+use Rattle.calls.specs.Calls.{Called, unlessOther, takenOn, reaching, Fits, called, afterCalls}
 use Rattle.calls.proofs.Kept.{fresh-state-valid, called-valid, admitted, still-fits}
 use Rattle.demands.proofs.Repainted.{performed-unnamed}
-use Rattle.demands.proofs.Bounded.{countOf, called-count}
+use Rattle.demands.specs.Wires.{countOf}
+use Rattle.demands.proofs.Bounded.{called-count}
 use Rattle.demands.proofs.Sequences.{after-valid, after-shows}
 use Rattle.demands.specs.Demand3.{pictureOf, namedActed, namedBy, everNamed, PictureStands, NamedBytesShown, CountIsNumber, GlyphAtMost32, GraphicAtMost1, Demand3}
 
@@ -101,8 +102,8 @@ after-keeps :
     → Fits e frame
     → i < 1024
     → everNamed e s frame calls i ≡ false
-    → getD (pictureOf e (after e s frame calls .state)) i 0 ≡ getD (pictureOf e s) i 0
-unfolding after everNamed
+    → getD (pictureOf e (afterCalls e s frame calls .state)) i 0 ≡ getD (pictureOf e s) i 0
+unfolding afterCalls everNamed
 after-keeps e s frame [] i v fits h u = refl
 after-keeps e s frame (call ∷ calls) i v fits h u =
     let q = or-neither (namedBy s call i) (everNamed e (called e s frame call .state) (called e s frame call .frame) calls i) u in
@@ -111,7 +112,7 @@ after-keeps e s frame (call ∷ calls) i v fits h u =
     ∙ call-keeps e s frame call i fits h v (q .0)
 
 named-bytes-shown : NamedBytesShown
-unfolding after everNamed
+unfolding afterCalls everNamed
 named-bytes-shown e s frame [] i v fits h = refl
 named-bytes-shown e s frame (call ∷ calls) i v fits h =
     let s' = called e s frame call .state in

@@ -38,7 +38,7 @@ use Rattle.calls.specs.Calls.{Fits, called}
 use Rattle.demands.specs.Wires.{answers}
 use Rattle.calls.proofs.Kept.{still-fits}
 use Rattle.demands.specs.Demand1.{isSerial}
-use Rattle.demands.specs.Readings.{instruct, write, status, read}
+use Rattle.demands.specs.Readings.{instruct, writeData, readStatus, readData}
 use Rattle.demands.specs.ReadBack.{repliesTo, toText, toGlyph, toGraphic, thereAndBack, bothRead, TakesBytes, ReadBack}
 use Rattle.demands.proofs.Readings.{Told, tells, call-told}
 
@@ -120,9 +120,9 @@ module _ (q : Pairing) (entry : Entry) (shown : Shown) (g : Bool) where
         let one = written m (to .control) b in
         let two = written (one .memories) (one .done .control) c in
         let fits : 2 * a + 1 < length (m .text) = omega arith in
-        to-text m p sr v standby a h (write b ∷ write c ∷ status ∷ (toText a ++ (read ∷ read ∷ read ∷ [])))
+        to-text m p sr v standby a h (writeData b ∷ writeData c ∷ readStatus ∷ (toText a ++ (readData ∷ readData ∷ readData ∷ [])))
         ∙ ap (λ (l : List ℕ). 0 ∷ 0 ∷ 0 ∷ stepped (entry .id) a ∷ l)
-        (to-text (two .memories) (two .done .control .place) sr (two .done .control .view) false a h (read ∷ read ∷ read ∷ []))
+        (to-text (two .memories) (two .done .control .place) sr (two .done .control .view) false a h (readData ∷ readData ∷ readData ∷ []))
         ∙ rw (first-back (m .text) (2 * a) b c fits, second-back (m .text) (2 * a) b c fits)
 
     glyph-back :
@@ -134,9 +134,9 @@ module _ (q : Pairing) (entry : Entry) (shown : Shown) (g : Bool) where
         let one = written m (to .control) b in
         let two = written (one .memories) (one .done .control) c in
         let fits : 2 * a + 1 < length (m .glyph) = omega arith in
-        to-glyph m p sr v standby a h (write b ∷ write c ∷ status ∷ (toGlyph a ++ (read ∷ read ∷ read ∷ [])))
+        to-glyph m p sr v standby a h (writeData b ∷ writeData c ∷ readStatus ∷ (toGlyph a ++ (readData ∷ readData ∷ readData ∷ [])))
         ∙ ap (λ (l : List ℕ). 0 ∷ 0 ∷ 0 ∷ stepped (entry .id) a ∷ l)
-        (to-glyph (two .memories) (two .done .control .place) sr (two .done .control .view) false a h (read ∷ read ∷ read ∷ []))
+        (to-glyph (two .memories) (two .done .control .place) sr (two .done .control .view) false a h (readData ∷ readData ∷ readData ∷ []))
         ∙ rw (first-back (m .glyph) (2 * a) b c fits, second-back (m .glyph) (2 * a) b c fits)
 
     graphic-back :
@@ -150,9 +150,9 @@ module _ (q : Pairing) (entry : Entry) (shown : Shown) (g : Bool) where
         let two = written (one .memories) (one .done .control) c in
         let place = 32 * row + 2 * column in
         let fits : place + 1 < length (m .graphic) = omega arith in
-        to-graphic m p sr v standby row column h k (write b ∷ write c ∷ status ∷ (toGraphic row column ++ (read ∷ read ∷ read ∷ [])))
+        to-graphic m p sr v standby row column h k (writeData b ∷ writeData c ∷ readStatus ∷ (toGraphic row column ++ (readData ∷ readData ∷ readData ∷ [])))
         ∙ ap (λ (l : List ℕ). 0 ∷ 0 ∷ 0 ∷ 0 ∷ (column + 1) % 16 ∷ l)
-        (to-graphic (two .memories) (two .done .control .place) sr (two .done .control .view) false row column h k (read ∷ read ∷ read ∷ []))
+        (to-graphic (two .memories) (two .done .control .place) sr (two .done .control .view) false row column h k (readData ∷ readData ∷ readData ∷ []))
         ∙ rw (first-back (m .graphic) place b c fits, second-back (m .graphic) place b c fits)
 
 -- a state that takes bytes, as the laws above have it

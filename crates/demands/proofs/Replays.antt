@@ -20,7 +20,7 @@ use Rattle.links.specs.Taken.{takenBy}
 use Rattle.picture.specs.Picture.{Seen}
 use Rattle.picture.specs.Refusals.{refusalOf}
 use Rattle.calls.specs.State.{State, freshState}
-use Rattle.calls.specs.Calls.{unlessOther, Fits, called, Stands, after}
+use Rattle.calls.specs.Calls.{unlessOther, Fits, called, Stands, afterCalls}
 use Rattle.calls.proofs.Kept.{admitted, still-fits}
 use Rattle.demands.specs.Wires.{answers, numbersOf}
 use Rattle.printed.specs.Text.{Answered, answer, lines}
@@ -48,8 +48,8 @@ lowest (suc n) value = bits.bit n value ∷ lowest n value
 
 bits-heard :
     (e : Seen) (value n : ℕ) (s : State) (frame : List ℕ)
-    → after e s frame (map Bit (lowest n value)) ≡ standsAt (heard e value n s frame .state) (heard e value n s frame .frame)
-unfolding after heard lowest
+    → afterCalls e s frame (map Bit (lowest n value)) ≡ standsAt (heard e value n s frame .state) (heard e value n s frame .frame)
+unfolding afterCalls heard lowest
 bits-heard e value zero s frame = refl
 bits-heard e value (suc n) s frame =
     bits-heard e value n (called e s frame (Bit (bits.bit n value)) .state) (called e s frame (Bit (bits.bit n value)) .frame)
@@ -97,7 +97,7 @@ module _ (e : Seen) (kind value : ℕ) (s : State) (frame : List ℕ) where
 
   eight-heard :
       eightBits e value s frame .number ≡ 0
-      → after e s frame (map Bit (lowest 8 value)) ≡ standsAt (eightBits e value s frame .state) (eightBits e value s frame .frame)
+      → afterCalls e s frame (map Bit (lowest 8 value)) ≡ standsAt (eightBits e value s frame .state) (eightBits e value s frame .frame)
   unfolding eightBits
   eight-heard =
       by-test (eqb (called e s frame (Bit (bits.bit 7 value)) .number) 0) (λ t. rw t (λ z. bits-heard e value 8 s frame))
@@ -106,8 +106,8 @@ module _ (e : Seen) (kind value : ℕ) (s : State) (frame : List ℕ) where
   -- an accepted record does what its calls do
   pub record-does :
       recorded e kind value s frame .number ≡ 0
-      → after e s frame (callsOf kind value) ≡ standsAt (recorded e kind value s frame .state) (recorded e kind value s frame .frame)
-  unfolding recorded callsOf after lowest
+      → afterCalls e s frame (callsOf kind value) ≡ standsAt (recorded e kind value s frame .state) (recorded e kind value s frame .frame)
+  unfolding recorded callsOf afterCalls lowest
   record-does = by-test (eqb kind 4) (λ t. rw t eight-heard) (λ t. rw t (λ z. refl))
 
 -- with frame and fonts that fit, a record is refused where its first call is of the other link, and with 5
@@ -207,12 +207,12 @@ module _ (e : Seen) (last : ℕ) where
     accepted :
         numbersOf e s frame (callsOfAll (take (length (r .answers)) rs))
         ≡ replicate (length (callsOfAll (take (length (r .answers)) rs))) 0
-    stands : standsAt (r .ending .state) (r .ending .frame) ≡ after e s frame (callsOfAll (take (length (r .answers)) rs))
+    stands : standsAt (r .ending .state) (r .ending .frame) ≡ afterCalls e s frame (callsOfAll (take (length (r .answers)) rs))
     answers : r .answers ≡ answersOf e s frame (take (length (r .answers)) rs)
 
   obeyed-obeys :
       (room : Room) (rs : List Recorded) (s : State) (frame : List ℕ) (n : ℕ) → Fits e frame → Obeys rs s frame (obeyed e last room rs s frame n)
-  unfolding obeyed after answers answersOf flatten
+  unfolding obeyed afterCalls answers answersOf flatten
   obeyed-obeys room [] s frame n fits = record { stops = behindAll refl refl refl; accepted = refl; stands = refl; answers = refl }
   obeyed-obeys room (r ∷ rs) s frame n fits =
       let k = recorded e (r .kind) (r .value) s frame in
@@ -237,7 +237,7 @@ module _ (e : Seen) (last : ℕ) where
             ∙ sym (zeros-append (callsOf (r .kind) (r .value)) more);
         stands =
             on .stands
-            ∙ ap (λ (x : Stands). after e (x .state) (x .frame) more) (sym does)
+            ∙ ap (λ (x : Stands). afterCalls e (x .state) (x .frame) more) (sym does)
             ∙ sym (after-append e (callsOf (r .kind) (r .value)) more s frame);
         answers =
             ap (λ (l : List Answered). answered (r .kind) k ∷ l) (on .answers)

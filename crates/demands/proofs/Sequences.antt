@@ -6,13 +6,13 @@ use lib.ListN.{length, replicate}
 use Rattle.picture.specs.Picture.{Seen, pictured}
 use Rattle.events.specs.declared.Event.{Event}
 use Rattle.calls.specs.State.{State, Valid}
-use Rattle.calls.specs.Calls.{called, after}
+use Rattle.calls.specs.Calls.{called, afterCalls}
 use Rattle.calls.proofs.Kept.{called-valid}
 use Rattle.demands.specs.Wires.{answers, numbersOf}
 use Rattle.demands.proofs.Repainted.{called-shows}
 
-pub after-valid : (e : Seen) (s : State) (frame : List ℕ) (calls : List Event) → Valid s → Valid (after e s frame calls .state)
-unfolding after
+pub after-valid : (e : Seen) (s : State) (frame : List ℕ) (calls : List Event) → Valid s → Valid (afterCalls e s frame calls .state)
+unfolding afterCalls
 after-valid e s frame [] v = v
 after-valid e s frame (call ∷ calls) v =
     after-valid e (called e s frame call .state) (called e s frame call .frame) calls (called-valid e s frame call v)
@@ -22,8 +22,8 @@ pub after-shows :
     (e : Seen) (s : State) (frame : List ℕ) (calls : List Event)
     → Valid s
     → frame ≡ pictured e (s .memories) (s .control)
-    → after e s frame calls .frame ≡ pictured e (after e s frame calls .state .memories) (after e s frame calls .state .control)
-unfolding after
+    → afterCalls e s frame calls .frame ≡ pictured e (afterCalls e s frame calls .state .memories) (afterCalls e s frame calls .state .control)
+unfolding afterCalls
 after-shows e s frame [] v h = h
 after-shows e s frame (call ∷ calls) v h =
     after-shows e (called e s frame call .state) (called e s frame call .frame) calls (called-valid e s frame call v)
@@ -32,8 +32,8 @@ after-shows e s frame (call ∷ calls) v h =
 -- some calls, then some more
 pub after-append :
     (e : Seen) (calls more : List Event) (s : State) (frame : List ℕ)
-    → after e s frame (calls ++ more) ≡ after e (after e s frame calls .state) (after e s frame calls .frame) more
-unfolding after
+    → afterCalls e s frame (calls ++ more) ≡ afterCalls e (afterCalls e s frame calls .state) (afterCalls e s frame calls .frame) more
+unfolding afterCalls
 after-append e [] more s frame = refl
 after-append e (call ∷ calls) more s frame =
     after-append e calls more (called e s frame call .state) (called e s frame call .frame)
@@ -41,8 +41,8 @@ after-append e (call ∷ calls) more s frame =
 pub numbers-append :
     (e : Seen) (calls more : List Event) (s : State) (frame : List ℕ)
     → numbersOf e s frame (calls ++ more)
-    ≡ numbersOf e s frame calls ++ numbersOf e (after e s frame calls .state) (after e s frame calls .frame) more
-unfolding after answers
+    ≡ numbersOf e s frame calls ++ numbersOf e (afterCalls e s frame calls .state) (afterCalls e s frame calls .frame) more
+unfolding afterCalls answers
 numbers-append e [] more s frame = refl
 numbers-append e (call ∷ calls) more s frame =
     ap (λ (ns : List ℕ). called e s frame call .number ∷ ns)

@@ -9,7 +9,7 @@ use Rattle.links.specs.Items.{highestFirst}
 use Rattle.capture.specs.Capture.{Recorded}
 use Rattle.picture.specs.Picture.{Seen}
 use Rattle.calls.specs.State.{State}
-use Rattle.calls.specs.Calls.{Called, after}
+use Rattle.calls.specs.Calls.{Called, afterCalls}
 use Rattle.demands.specs.Wires.{answers}
 use Rattle.printed.specs.Text.{Answered, answer}
 use Rattle.playback.specs.Records.{eventOf}
@@ -43,4 +43,4 @@ unfoldable pub answersOf : Seen → State → List ℕ → List Recorded → Lis
 answersOf e s frame [] = []
 answersOf e s frame (r ∷ rs) =
     answerOf e s frame r
-    ∷ answersOf e (after e s frame (callsOf (r .kind) (r .value)) .state) (after e s frame (callsOf (r .kind) (r .value)) .frame) rs
+    ∷ answersOf e (afterCalls e s frame (callsOf (r .kind) (r .value)) .state) (afterCalls e s frame (callsOf (r .kind) (r .value)) .frame) rs

@@ -17,7 +17,7 @@ use Rattle.links.specs.Sender.{sent, leaving}
 use Rattle.picture.specs.Picture.{Seen}
 use Rattle.picture.specs.Refusals.{drawn, leaves}
 use Rattle.calls.specs.State.{State}
-use Rattle.calls.specs.Calls.{called, refused, after}
+use Rattle.calls.specs.Calls.{called, refused, afterCalls}
 use Rattle.demands.specs.Wires.{numbersOf}
 use Rattle.capture.specs.declared.Answer.{Answer}
 use Rattle.capture.specs.declared.Answer.the-variants.{Record, Short, WrongMark, WrongKind, WrongValue, End}
@@ -144,7 +144,7 @@ pub record ReplayStops (e : Seen) (capture : List ℕ) (s : State) (frame : List
   pub stands :
       TableSays e frame false 0
       → record { state = r .ending .state; frame = r .ending .frame }
-      ≡ after e s frame (callsOfAll (take (length (r .answers)) (contents capture .records)))
+      ≡ afterCalls e s frame (callsOfAll (take (length (r .answers)) (contents capture .records)))
   -- and the answers are theirs: of each record its kind, its call's reply, and the sum of its calls' counts
   pub answers :
       TableSays e frame false 0

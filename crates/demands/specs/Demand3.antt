@@ -20,7 +20,7 @@ use Rattle.picture.specs.Picture.{Seen, pictured}
 use Rattle.repaint.specs.Repaint.{named}
 use Rattle.events.specs.declared.Made.{Made}
 use Rattle.calls.specs.State.{State, freshState, Valid}
-use Rattle.calls.specs.Calls.{takenOn, reaching, Fits, called, after}
+use Rattle.calls.specs.Calls.{takenOn, reaching, Fits, called, afterCalls}
 use Rattle.demands.specs.Wires.{isData}
 
 -- the picture of a state
@@ -46,7 +46,7 @@ abbrev pub PictureStands : Type 0
 PictureStands =
     (e : Seen) (s : State) (calls : List Event)
     → Valid s
-    → after e s (pictureOf e s) calls .frame ≡ pictureOf e (after e s (pictureOf e s) calls .state)
+    → afterCalls e s (pictureOf e s) calls .frame ≡ pictureOf e (afterCalls e s (pictureOf e s) calls .state)
 
 -- on any frame, the bytes that were named are the picture's, and no other byte is altered
 abbrev pub NamedBytesShown : Type 0
@@ -55,8 +55,8 @@ NamedBytesShown =
     → Valid s
     → Fits e frame
     → i < 1024
-    → getD (after e s frame calls .frame) i 0
-    ≡ (if everNamed e s frame calls i then getD (pictureOf e (after e s frame calls .state)) i 0 else getD frame i 0)
+    → getD (afterCalls e s frame calls .frame) i 0
+    ≡ (if everNamed e s frame calls i then getD (pictureOf e (afterCalls e s frame calls .state)) i 0 else getD frame i 0)
 
 -- the reported number is the number of bytes named
 abbrev pub CountIsNumber : Type 0
@@ -94,7 +94,7 @@ abbrev pub FreshIsValid : Type 0
 FreshIsValid = (made : Made) → Valid (freshState made)
 
 abbrev pub StaysValid : Type 0
-StaysValid = (e : Seen) (s : State) (frame : List ℕ) (calls : List Event) → Valid s → Valid (after e s frame calls .state)
+StaysValid = (e : Seen) (s : State) (frame : List ℕ) (calls : List Event) → Valid s → Valid (afterCalls e s frame calls .state)
 
 pub record Demand3 : Type 0 where
   pub stands : PictureStands

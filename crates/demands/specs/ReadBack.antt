@@ -13,7 +13,7 @@ use Rattle.calls.specs.State.{State, Valid}
 use Rattle.calls.specs.Calls.{Fits}
 use Rattle.demands.specs.Wires.{answers}
 use Rattle.demands.specs.Demand1.{isSerial}
-use Rattle.demands.specs.Readings.{instruct, write, status, read}
+use Rattle.demands.specs.Readings.{instruct, writeData, readStatus, readData}
 
 -- what calls reply, in their order
 abbrev pub repliesTo : Seen → State → List ℕ → List Event → List ℕ
@@ -31,7 +31,7 @@ toGraphic row column = instruct (0x80 + row) ∷ instruct (0x80 + column) ∷ []
 
 -- there: the address, two data writes, status; and back: the address, and three data reads
 abbrev pub thereAndBack : List Event → ℕ → ℕ → List Event
-thereAndBack address b c = address ++ (write b ∷ write c ∷ status ∷ (address ++ (read ∷ read ∷ read ∷ [])))
+thereAndBack address b c = address ++ (writeData b ∷ writeData c ∷ readStatus ∷ (address ++ (readData ∷ readData ∷ readData ∷ [])))
 
 -- instructions and writes reply 0, status the counter; of the reads the first, which is a dummy, 0, and the others the two bytes
 abbrev pub bothRead : List Event → ℕ → ℕ → ℕ → List ℕ

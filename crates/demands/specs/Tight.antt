@@ -53,7 +53,7 @@ pub record With (A : Type 0) : Type 0 where
   pub buffer : List ℕ
 
 -- what a call of the panel is given: fonts and phase, the state, the frame, and the call with its own argument
-pub record Given (S : Type 0) : Type 0 where
+pub record Calling (S : Type 0) : Type 0 where
   pub seen : Seen
   pub state : S
   pub frame : List ℕ
@@ -120,7 +120,7 @@ pub record LeftTold : Type 0 where
   pub text : List ℕ
 
 -- what `put_last` is given
-pub record Ending : Type 0 where
+pub record LastLine : Type 0 where
   pub buffer : List ℕ
   pub place : ℕ
   pub number : ℕ
@@ -155,7 +155,7 @@ abbrev pub contractOf : PublicCall → Contract
 contractOf fresh = record { Input = Made; Outcome = Panel; Left = State; leaves = stateOf; means = freshState }
 contractOf call =
     record {
-      Input = Given Panel;
+      Input = Calling Panel;
       Outcome = With panel.Outcome;
       Left = Called;
       leaves = λ x. handed (x .result) (x .buffer);
@@ -171,7 +171,7 @@ contractOf draw =
     }
 contractOf lentCall =
     record {
-      Input = Given State;
+      Input = Calling State;
       Outcome = LeftLent;
       Left = Called;
       leaves = λ x. left (x .answer) (x .memories) (x .frame);
@@ -210,7 +210,7 @@ contractOf transcribe =
     }
 contractOf putLast =
     record {
-      Input = Ending;
+      Input = LastLine;
       Outcome = With ℕ;
       Left = lines.Begun;
       leaves = λ x. lines.leaves (x .result) (x .buffer);

@@ -3,11 +3,12 @@ use Prim.Native.Nat.{ℕ, _+_, _≤_, _<_}
 use mathlib.Core.Path.{_≡_}
 use mathlib.Core.Bool.{Bool, true, false}
 use mathlib.Core.List.{List, [], _∷_, _++_, map}
+use lib.ListN.{replicate}
 use Rattle.base.specs.Bits.{bit, bits3-0}
 use Rattle.events.specs.declared.Event.{Event}
 use Rattle.events.specs.declared.Event.the-variants.{Transfer, Bit}
 use Rattle.events.specs.declared.Deed.{Deed}
-use Rattle.events.specs.declared.Deed.the-variants.{Whole}
+use Rattle.events.specs.declared.Deed.the-variants.{Nothing, Whole}
 use Rattle.links.specs.declared.Link.{Link}
 use Rattle.links.specs.declared.Link.the-variants.{Parallel, Serial}
 use Rattle.links.specs.declared.Pairing.the-variants.{Empty}
@@ -69,6 +70,12 @@ eventsOf (halves low) w =
     ∷ []
 eventsOf serial w = map Bit (bitsOf (threeBytes (w .register) (w .byte)))
 
+-- of these events exactly the last acts
+abbrev pub writeDeeds : Way → WholeWrite → List Deed
+writeDeeds bytes w = deed (write w) ∷ []
+writeDeeds (halves low) w = Nothing ∷ deed (write w) ∷ []
+writeDeeds serial w = replicate 23 Nothing ++ (deed (write w) ∷ [])
+
 -- the way as it goes on after a write: the next half bytes have the next bits 3..0
 abbrev pub onward : Way → Way
 onward bytes = bytes
@@ -80,6 +87,12 @@ unfoldable pub wires : Way → List Item → List Event
 wires way [] = []
 wires way (write w ∷ items) = eventsOf way w ++ wires (onward way) items
 wires way (beside x ∷ items) = x .event ∷ wires way items
+
+-- what of each of its events acts
+unfoldable pub wireDeeds : Way → List Item → List Deed
+wireDeeds way [] = []
+wireDeeds way (write w ∷ items) = writeDeeds way w ++ wireDeeds way items
+wireDeeds way (beside x ∷ items) = x .deed ∷ wireDeeds way items
 
 -- the link of a way, idle
 abbrev pub idleOn : Way → Link
