@@ -55,7 +55,7 @@ pub left-valid :
     (e : Seen) (s : State) (f g : List ℕ) (event : Event) (r : Answer) (m : Memories)
     → left r m g ≡ called e s f event
     → Valid s
-    → controls.Valid m (r .control)
+    → controls.AllInRange m (r .control)
 left-valid e s f g event r m h v = subst (λ (k : Called). Valid (k .state)) (sym h) (called-valid e s f event v)
 
 -- a call that is refused leaves what a refusal leaves

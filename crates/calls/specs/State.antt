@@ -20,4 +20,4 @@ freshState made = state freshMemories (controls.freshControl made) (idle (made .
 
 -- a state handed to a call lies within its ranges
 abbrev pub Valid : State → Type 0
-Valid s = controls.Valid (s .memories) (s .control)
+Valid s = controls.AllInRange (s .memories) (s .control)

@@ -8,8 +8,6 @@ use Rattle.events.specs.declared.Made.{Made}
 use Rattle.events.specs.declared.Pin.{Pin}
 use Rattle.table.specs.declared.Target.{Target}
 use Rattle.table.specs.declared.Target.the-variants.{Text, Glyph, Graphic}
-use Rattle.table.specs.declared.Instruction.{Instruction}
-use Rattle.table.specs.declared.Instruction.the-variants.{Ignored, Clear, Home, EntryMode, Display, MoveCursor, MoveDisplay, FunctionSet, GlyphAddress, TextAddress, Standby, SetSr, ToggleReverse, Scroll, GraphicAddress}
 use Rattle.controller.specs.declared.Waiting.{Waiting}
 use Rattle.controller.specs.declared.Waiting.the-variants.{Nothing, Row}
 use Rattle.controller.specs.declared.Place.{Place}
@@ -62,26 +60,8 @@ pub record InRange (c : Control) : Type 0 where
   pub lines : length (c .view .reversed) ≡ 4
 
 -- a state that may be handed to a call: its controls lie within their ranges, and its memories have their sizes
-pub record Valid (m : Memories) (c : Control) : Type 0 where
+pub record AllInRange (m : Memories) (c : Control) : Type 0 where
   pub control : InRange c
   pub text : length (m .text) ≡ 128
   pub glyph : length (m .glyph) ≡ 128
   pub graphic : length (m .graphic) ≡ 2048
-
--- the values that an instruction carries are those that its bits can make
-abbrev pub Within : Instruction → Type 0
-Within Ignored = Unit {0}
-Within Clear = Unit {0}
-Within Home = Unit {0}
-Within (EntryMode id s) = Unit {0}
-Within (Display display cursor blink) = Unit {0}
-Within (MoveCursor right) = Unit {0}
-Within (MoveDisplay right) = Unit {0}
-Within (FunctionSet dl re g) = Unit {0}
-Within (GlyphAddress a) = a < 64
-Within (TextAddress a) = a < 64
-Within Standby = Unit {0}
-Within (SetSr sr) = Unit {0}
-Within (ToggleReverse line) = line < 4
-Within (Scroll rows) = rows < 64
-Within (GraphicAddress a) = a < 64

@@ -16,10 +16,10 @@ use Rattle.controller.specs.declared.Function.{Function}
 use Rattle.controller.specs.declared.Control.{Control}
 use Rattle.controller.specs.Memories.{Memories}
 use Rattle.controller.specs.Instructions as instructions
-use Rattle.controller.specs.Instructions.{withFunction, begun, obeyed, cleared, modes}
+use Rattle.controller.specs.Instructions.{withFunction, begun, obeyed, modes}
 use Rattle.controller.specs.Data.{movedOn}
 use Rattle.controller.specs.Named.{instructionNames, writeNames, readNames}
-use Rattle.controller.specs.Transfers.{Acted, acted, instructed, obeyedDone, executed, written, readOut, statusRead, withText, carriedOut, performed}
+use Rattle.controller.specs.Transfers.{Acted, acted, obeyedActed, executed, written, readOut, statusRead, carriedOut, performed}
 use Rattle.events.specs.declared.Transfer.{Transfer}
 use Rattle.events.specs.declared.Transfer.the-variants.{Instruct, Write, Status, Read}
 use Rattle.events.specs.declared.Deed.{Deed}
@@ -58,29 +58,25 @@ abbrev functionButDl : Function → Function
 functionButDl f = record { dl = true; re = f .re; g = f .g }
 
 function-but-dl : (was is was' is' r g re new : Bool) →
-    functionButDl (instructions.functionSet (record { dl = was; re = r; g = g }) is re new)
-    ≡ functionButDl (instructions.functionSet (record { dl = was'; re = r; g = g }) is' re new)
+    functionButDl (instructions.setFunction (record { dl = was; re = r; g = g }) is re new)
+    ≡ functionButDl (instructions.setFunction (record { dl = was'; re = r; g = g }) is' re new)
 function-but-dl was is was' is' false g false new = refl
 function-but-dl was is was' is' false g true new = refl
 function-but-dl was is was' is' true g false new = refl
 function-but-dl was is was' is' true g true new = refl
 
--- what an instruction leaves
-abbrev done : Memories → Control → Instruction → Acted
-done m c i = withText m (instructed (cleared i (m .text)) (obeyedDone c i))
-
 function-set-but-dl : (m : Memories) (c : Control) (is is' re g : Bool) →
-    actedButDl (done m c (FunctionSet is re g)) ≡ actedButDl (done m (withDl true c) (FunctionSet is' re g))
+    actedButDl (obeyedActed m c (FunctionSet is re g)) ≡ actedButDl (obeyedActed m (withDl true c) (FunctionSet is' re g))
 unfolding obeyed instructionNames
 function-set-but-dl m c is is' re g =
-    let a = done m c (FunctionSet is re g) in
+    let a = obeyedActed m c (FunctionSet is re g) in
     ap (λ (f : Function). acted (a .memories) (record {
       control = withFunction f (begun c);
       reply = 0;
       region = a .done .region;
     })) (function-but-dl (c .function .dl) is true is' (c .function .re) (c .function .g) re g)
 
-obeyed-but-dl : (m : Memories) (c : Control) (i : Instruction) → actedButDl (done m c i) ≡ actedButDl (done m (withDl true c) i)
+obeyed-but-dl : (m : Memories) (c : Control) (i : Instruction) → actedButDl (obeyedActed m c i) ≡ actedButDl (obeyedActed m (withDl true c) i)
 unfolding obeyed instructionNames
 obeyed-but-dl m c Ignored = refl
 obeyed-but-dl m c Clear = refl
@@ -101,7 +97,7 @@ obeyed-but-dl m c (GraphicAddress a) = refl
 -- two function sets in a row of the table
 function-sets-but-dl : (m : Memories) (c : Control) (b d : ℕ) →
     0x20 ≤ b → b < 0x40 → 0x20 ≤ d → d < 0x40 → bits3-0 b ≡ bits3-0 d →
-    actedButDl (done m c (said (modes c) b)) ≡ actedButDl (done m (withDl true c) (said (modes c) d))
+    actedButDl (obeyedActed m c (said (modes c) b)) ≡ actedButDl (obeyedActed m (withDl true c) (said (modes c) d))
 function-sets-but-dl m c b d p q r s e =
     rw (functionSet-said (modes c) b p q, functionSet-said (modes c) d r s, bit2-same b d e, bit1-same b d e)
     (function-set-but-dl m c (bit 4 b) (bit 4 d) (bit 2 d) (bit 1 d))

@@ -50,7 +50,7 @@ module _ (dl : Bool) where
       (was is r g re new : Bool)
       → was ≡ dl
       → is ≡ dl
-      → instructions.functionSet (record { dl = was; re = r; g = g }) is re new .dl ≡ dl
+      → instructions.setFunction (record { dl = was; re = r; g = g }) is re new .dl ≡ dl
   function-dl was is false g false new h k = k
   function-dl was is false g true new h k = h
   function-dl was is true g false new h k = h
