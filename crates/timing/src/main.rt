@@ -1,5 +1,6 @@
-// Does one thing many times, to be timed from outside; the first argument says what: `value`, a text write with its repaint by the
-// call by value; `lent`, the same on lent memories; `copy`, a copy of the state alone; `draw`, the whole picture.
+// Does one thing many times, to be timed from outside; the first argument says what: `text`, `images` or `graphic`, writes into that
+// memory with their repaint, on lent memories; `value`, the text writes by the call by value; `copy`, a copy of the state alone;
+// `draw`, the whole picture. Before the writes come the few transfers that make the screen.
 // Prints a number that depends on all that was done, so that none of it can be left out.
 use controller::Control;
 use events::Event;
@@ -21,6 +22,59 @@ fn mixed(sum: u64, with: usize) -> u64 {
     (sum % 1000003) * 31 % 1000003 + (with as u64) % 1000003
 }
 
+fn letter(i: u32) -> Transfer {
+    Transfer::Write(0x21 + (i % 94) as u8)
+}
+
+// Display, cursor and blink on, from address 0.
+fn text_turn(i: u32) -> Transfer {
+    match i {
+        0 => Transfer::Instruct(0x0F),
+        1 => Transfer::Instruct(0x80),
+        _ => letter(i),
+    }
+}
+
+// A high half of 00h and a low half of 00h..0Fh, in turn: each cell shows an image.
+fn image_half(i: u32) -> Transfer {
+    if i % 2 == 0 {
+        return Transfer::Write(0x00);
+    }
+    Transfer::Write((i / 2 % 16) as u8)
+}
+
+// All cells show images, then glyph memory is written from address 0.
+fn images_turn(i: u32) -> Transfer {
+    match i {
+        0 => Transfer::Instruct(0x0F),
+        1 => Transfer::Instruct(0x80),
+        2..=129 => image_half(i),
+        130 => Transfer::Instruct(0x40),
+        _ => letter(i),
+    }
+}
+
+// Graphic on, and its row 3 written over and over.
+fn graphic_turn(i: u32) -> Transfer {
+    match i {
+        0 => Transfer::Instruct(0x0F),
+        1 => Transfer::Instruct(0x34),
+        2 => Transfer::Instruct(0x36),
+        3 => Transfer::Instruct(0x83),
+        4 => Transfer::Instruct(0x80),
+        _ => letter(i),
+    }
+}
+
+// The transfer of turn i.
+fn turn(what: u8, i: u32) -> Transfer {
+    match what {
+        b'i' => images_turn(i),
+        b'g' => graphic_turn(i),
+        _ => text_turn(i),
+    }
+}
+
 fn by_value() -> u64 {
     let mut panel = Panel::fresh(Made { parallel: true });
     let mut frame = [0u8; 1024];
@@ -29,8 +83,8 @@ fn by_value() -> u64 {
     let mut sum: u64 = 0;
     let mut i: u32 = 0;
     while i < TIMES {
-        let byte = (i % 128) as u8;
-        let outcome = panel.transfer(Transfer::Write(byte), &mut frame, &half, &full, false);
+        let given = text_turn(i);
+        let outcome = panel.transfer(given, &mut frame, &half, &full, false);
         let next = outcome.panel;
         panel = next;
         sum = mixed(sum, outcome.count);
@@ -39,7 +93,7 @@ fn by_value() -> u64 {
     sum
 }
 
-fn on_lent() -> u64 {
+fn on_lent(what: u8) -> u64 {
     let mut text = [0x20u8; 128];
     let mut glyph = [0u8; 128];
     let mut graphic = [0u8; 2048];
@@ -51,14 +105,14 @@ fn on_lent() -> u64 {
     let mut sum: u64 = 0;
     let mut i: u32 = 0;
     while i < TIMES {
-        let byte = (i % 128) as u8;
+        let given = turn(what, i);
         let answer = calls::call(
             &mut text,
             &mut glyph,
             &mut graphic,
             control,
             link,
-            Event::Transfer(Transfer::Write(byte)),
+            Event::Transfer(given),
             &mut frame,
             &half,
             &full,
@@ -129,7 +183,9 @@ fn main() {
     let first = word[0];
     let sum = match first {
         b'v' => by_value(),
-        b'l' => on_lent(),
+        b't' => on_lent(first),
+        b'i' => on_lent(first),
+        b'g' => on_lent(first),
         b'c' => copies(),
         b'd' => draws(),
         _ => 0,
