@@ -2,12 +2,12 @@
 // alone as 23 of them. Nothing is asked of a caller.
 mod spelling;
 
-use state_bytes::unpack;
 use panel::Made;
 use panel::Panel;
 use picture::refusals::refusal;
 use spelling::last_bytes;
 use spelling::spell_state;
+use state_bytes::unpack;
 ghost use mathlib.Core.Path.{_≡_};
 ghost use Rattle.controller.specs.Memories.{before};
 ghost use Rattle.picture.specs.Picture.{seen};

@@ -1,7 +1,7 @@
 // Where a replay stopped, spelled into arrays that the caller lends.
+use panel::Panel;
 use state_bytes::pack;
 use state_bytes::pack_link;
-use panel::Panel;
 ghost use mathlib.Core.Path.{_≡_};
 ghost use lib.ListN.{length};
 ghost use Rattle.panel.specs.Handed.{stateOf};

@@ -1,8 +1,8 @@
 // Runs document 01's readings 3 and 5 through the panel's calls, with their counts, and every refusal of these calls. Beside a refusal
 // it prints how much of the lent frame was changed, and what a right call then answers on the panel that was handed on.
 use events::Pin;
-use libc::STDOUT_FILENO;
 use events::Transfer;
+use libc::STDOUT_FILENO;
 use panel::Made;
 use panel::Outcome;
 use panel::Panel;

@@ -1,9 +1,9 @@
 // The parallel link with DL = 0: two half bytes of one kind make a transfer.
 use crate::Carried;
-use events::Deed;
 use crate::Link;
 use crate::Pairing;
 use crate::Rest;
+use events::Deed;
 use events::Transfer;
 ghost use mathlib.Core.Path.{_≡_};
 ghost use Rattle.links.specs.Halves.{raised, joined, writing, reading, kept, acts, handed, writeHalf, readHalf, paired};

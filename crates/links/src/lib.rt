@@ -6,14 +6,14 @@ mod sender;
 mod serial;
 mod taking;
 
+use events::Deed;
+use events::Transfer;
 pub use sender::send;
 pub use serial::hear;
 pub use serial::idle_receiver;
 pub use serial::select_low;
 pub use taking::reply;
 pub use taking::take;
-use events::Deed;
-use events::Transfer;
 ghost use mathlib.Core.Path.{_≡_};
 ghost use Rattle.links.specs.Idle.{idle};
 

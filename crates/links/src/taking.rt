@@ -1,14 +1,11 @@
 // What a link makes of an event, and how the controller's answer goes back over it.
 use crate::Carried;
-use events::Deed;
-use events::Event;
 use crate::Link;
 use crate::Pairing;
 use crate::Received;
 use crate::Replied;
 use crate::Rest;
 use crate::Taken;
-use events::Transfer;
 use crate::halves::first_reply;
 use crate::halves::pair;
 use crate::halves::pairing_after;
@@ -16,6 +13,9 @@ use crate::halves::writing;
 use crate::idle;
 use crate::serial::hear;
 use crate::serial::select_low;
+use events::Deed;
+use events::Event;
+use events::Transfer;
 ghost use mathlib.Core.Path.{_≡_};
 ghost use Rattle.links.specs.Taken.{stays, deedOf, byWidth, transferTaken, bitTaken, selectTaken, takenBy, replied};
 
@@ -92,7 +92,10 @@ fn select_taken(link: Link) -> Taken
 {
     match link {
         Link::Parallel(_) => Taken::OtherLink,
-        Link::Serial(receiver) => Taken::Carries(stays(Deed::Nothing, Link::Serial(select_low(receiver)))),
+        Link::Serial(receiver) => Taken::Carries(stays(
+            Deed::Nothing,
+            Link::Serial(select_low(receiver)),
+        )),
     }
 }
 
@@ -101,7 +104,10 @@ pub fn reply(rest: Rest, answer: u8) -> Replied
     ensures { λ r. ⌜ r ≡ replied rest answer ⌝ }
 {
     match rest {
-        Rest::Stays(link) => Replied { link, reply: answer },
+        Rest::Stays(link) => Replied {
+            link,
+            reply: answer,
+        },
         Rest::Halved(transfer) => Replied {
             link: Link::Parallel(pairing_after(transfer, answer)),
             reply: first_reply(answer),

@@ -2,8 +2,8 @@
 use crate::Made;
 use crate::Outcome;
 use crate::Panel;
-use controller::Control;
 use calls::Answer;
+use controller::Control;
 use events::Event;
 use events::Pin;
 use events::Transfer;

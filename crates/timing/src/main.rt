@@ -2,10 +2,10 @@
 // call by value; `lent`, the same on lent memories; `copy`, a copy of the state alone; `draw`, the whole picture.
 // Prints a number that depends on all that was done, so that none of it can be left out.
 use controller::Control;
-use libc::STDOUT_FILENO;
 use events::Event;
-use links::Link;
 use events::Transfer;
+use libc::STDOUT_FILENO;
+use links::Link;
 use panel::Made;
 use panel::Panel;
 ghost use Prim.Native.Nat.{_<_, _≤_};
