@@ -9,7 +9,7 @@ use borrow.Author.Tests.{eq-eqb, ne-eqb}
 use Rattle.picture.specs.Picture.{Seen}
 use Rattle.picture.specs.Refusals.{refusalOf}
 use Rattle.calls.specs.State.{State, freshState}
-use Rattle.playback.specs.Replay.{Stopped, stopped, endless, replayed}
+use Rattle.playback.specs.Transcript.{Told, replayedSilently}
 use Rattle.boundary.specs.Report.{stateBytes, lastBytes, report, freshReplay}
 
 module _ (parallel : Bool) (e : Seen) (capture frame state₀ last₀ : List ℕ) (n : ℕ) (is : n ≡ refusalOf (length frame) (length (e .half)) (length (e .full))) where
@@ -18,10 +18,10 @@ module _ (parallel : Bool) (e : Seen) (capture frame state₀ last₀ : List ℕ
   turned-away h = rw (← is, ne-eqb n 0 h)
 
   pub told :
-      {p : State} {s : Stopped} {state last : List ℕ}
+      {p : State} {s : Told} {state last : List ℕ}
       → n ≡ 0
       → p ≡ freshState (record { parallel = parallel })
-      → s ≡ stopped (replayed e endless capture p frame 0)
+      → s ≡ replayedSilently e capture p frame
       → state ≡ stateBytes (s .ending .state)
       → last ≡ lastBytes (s .ending .place) (s .reply) (s .count)
       → report (s .ending .number) (s .ending .frame) state last ≡ freshReplay parallel e capture frame state₀ last₀

@@ -8,7 +8,7 @@ use Rattle.base.specs.Choice.{if_then_else_}
 use Rattle.picture.specs.Picture.{Seen}
 use Rattle.picture.specs.Refusals.{refusalOf}
 use Rattle.calls.specs.State.{State, freshState}
-use Rattle.playback.specs.Replay.{Stopped, stopped, endless, replayed}
+use Rattle.playback.specs.Transcript.{Told, replayedSilently}
 use Rattle.state_bytes.specs.Packed.{packed}
 use Rattle.state_bytes.specs.LinkPacked.{linkPacked}
 
@@ -35,12 +35,12 @@ pub record Report : Type 0 where
 abbrev pub report : ℕ → List ℕ → List ℕ → List ℕ → Report
 report number frame state last = record { number = number; frame = frame; state = state; last = last }
 
-abbrev pub reported : Stopped → Report
+abbrev pub reported : Told → Report
 reported s = report (s .ending .number) (s .ending .frame) (stateBytes (s .ending .state)) (lastBytes (s .ending .place) (s .reply) (s .count))
 
 -- refused with 1, 2, 3 as a call, which leaves all that it was lent; else a fresh panel replays, and where that stopped is told
 unfoldable pub freshReplay : Bool → Seen → List ℕ → List ℕ → List ℕ → List ℕ → Report
 freshReplay parallel e capture frame state last =
     if eqb (refusalOf (length frame) (length (e .half)) (length (e .full))) 0
-    then reported (stopped (replayed e endless capture (freshState (record { parallel = parallel })) frame 0))
+    then reported (replayedSilently e capture (freshState (record { parallel = parallel })) frame)
     else report (refusalOf (length frame) (length (e .half)) (length (e .full))) frame state last

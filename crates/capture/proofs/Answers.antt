@@ -13,16 +13,17 @@ use denote.Enum.Declared.{tagOf}
 use Rattle.base.specs.Choice.{if_then_else_}
 use Rattle.capture.specs.declared.Answer.{Answer}
 use Rattle.capture.specs.declared.Answer.the-variants.{Record, Short, WrongMark, WrongKind, WrongValue, End}
-use Rattle.capture.specs.Record.{marked, known, allowed, answer, number, values}
+use Rattle.capture.specs.Kinds.{known, kindOf, allowed}
+use Rattle.capture.specs.Record.{marked, readFirst, number, values}
 use Rattle.capture.specs.Capture.{passed}
 use Rattle.capture.proofs.Answer.{the-type}
 
-pub nothing-left : (c : List ℕ) → length c ≡ 0 → answer c ≡ End
-unfolding answer
+pub nothing-left : (c : List ℕ) → length c ≡ 0 → readFirst c ≡ End
+unfolding readFirst
 nothing-left c h = simp (eq-eqb (length c) 0 h)
 
-pub one-to-three-left : (c : List ℕ) → (length c ≡ 0 → ⊥) → length c ≤ 3 → answer c ≡ Short
-unfolding answer
+pub one-to-three-left : (c : List ℕ) → (length c ≡ 0 → ⊥) → length c ≤ 3 → readFirst c ≡ Short
+unfolding readFirst
 one-to-three-left c h l = simp (ne-eqb (length c) 0 h, le-leb (length c) 3 l)
 
 -- the tests of four bytes
@@ -30,18 +31,18 @@ abbrev pub judged : ℕ → ℕ → ℕ → ℕ → Answer
 judged first second kind value =
     if not (marked first second) then WrongMark
     else if not (known kind) then WrongKind
-    else if not (allowed kind value) then WrongValue
+    else if not (allowed (kindOf kind) value) then WrongValue
     else Record kind value
 
-pub four-left : (c : List ℕ) → 3 < length c → answer c ≡ judged (getD c 0 0) (getD c 1 0) (getD c 2 0) (getD c 3 0)
-unfolding answer
+pub four-left : (c : List ℕ) → 3 < length c → readFirst c ≡ judged (getD c 0 0) (getD c 1 0) (getD c 2 0) (getD c 3 0)
+unfolding readFirst
 four-left c l = simp (ne-eqb (length c) 0 (λ z. omega arith), lt-leb (length c) 3 l)
 
 -- what comes after the first four bytes does not matter
-pub first-four-decide : (a b d e : ℕ) (c : List ℕ) → answer (a ∷ b ∷ d ∷ e ∷ c) ≡ judged a b d e
+pub first-four-decide : (a b d e : ℕ) (c : List ℕ) → readFirst (a ∷ b ∷ d ∷ e ∷ c) ≡ judged a b d e
 first-four-decide a b d e c = four-left (a ∷ b ∷ d ∷ e ∷ c) (omega arith)
 
-pub answer-of-front : (s t : List ℕ) → 4 ≤ length s → answer (s ++ t) ≡ answer s
+pub answer-of-front : (s t : List ℕ) → 4 ≤ length s → readFirst (s ++ t) ≡ readFirst s
 answer-of-front [] t h = absurd (omega arith)
 answer-of-front (a ∷ []) t h = absurd (omega arith)
 answer-of-front (a ∷ b ∷ []) t h = absurd (omega arith)
@@ -57,9 +58,9 @@ judged-no-end true false t₃ kind value h = let z : _≡_ {A = ℕ} 0 1 = cc in
 judged-no-end true true false kind value h = let z : _≡_ {A = ℕ} 0 1 = cc in omega arith
 judged-no-end true true true kind value h = let z : _≡_ {A = ℕ} 0 1 = cc in omega arith
 
-pub four-are-no-end : (a b d e : ℕ) (c : List ℕ) → answer (a ∷ b ∷ d ∷ e ∷ c) ≡ End → ⊥
+pub four-are-no-end : (a b d e : ℕ) (c : List ℕ) → readFirst (a ∷ b ∷ d ∷ e ∷ c) ≡ End → ⊥
 four-are-no-end a b d e c h =
-    judged-no-end (marked a b) (known d) (allowed d e) d e (sym (first-four-decide a b d e c) ∙ h)
+    judged-no-end (marked a b) (known d) (allowed (kindOf d) e) d e (sym (first-four-decide a b d e c) ∙ h)
 
 passed-at-most-four : (a : Answer) → passed a ≤ 4
 passed-at-most-four (Record kind value) = omega arith
@@ -69,15 +70,15 @@ passed-at-most-four WrongKind = omega arith
 passed-at-most-four WrongValue = omega arith
 passed-at-most-four End = omega arith
 
-pub passed-within : (c : List ℕ) → passed (answer c) ≤ length c
-unfolding answer
+pub passed-within : (c : List ℕ) → passed (readFirst c) ≤ length c
+unfolding readFirst
 passed-within [] = omega arith
 passed-within (a ∷ []) = omega arith
 passed-within (a ∷ b ∷ []) = omega arith
 passed-within (a ∷ b ∷ d ∷ []) = omega arith
-passed-within (a ∷ b ∷ d ∷ e ∷ c) = omega (arith, passed-at-most-four (answer (a ∷ b ∷ d ∷ e ∷ c)))
+passed-within (a ∷ b ∷ d ∷ e ∷ c) = omega (arith, passed-at-most-four (readFirst (a ∷ b ∷ d ∷ e ∷ c)))
 
-pub record-within : (c : List ℕ) {kind value : ℕ} → answer c ≡ Record kind value → 4 ≤ length c
+pub record-within : (c : List ℕ) {kind value : ℕ} → readFirst c ≡ Record kind value → 4 ≤ length c
 record-within c h = omega (arith, passed-within c, ap passed h)
 
 -- in the `else` of a `let` that wants a record there is none: the tag is another case's

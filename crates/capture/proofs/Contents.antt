@@ -9,23 +9,23 @@ use lib.Seq.{drop-drop}
 use denote.Ref.{RefT, now}
 use Rattle.capture.specs.declared.Answer.{Answer}
 use Rattle.capture.specs.declared.Answer.the-variants.{Record, Short, WrongMark, WrongKind, WrongValue, End}
-use Rattle.capture.specs.Record.{answer}
+use Rattle.capture.specs.Record.{readFirst}
 use Rattle.capture.specs.Part.{from}
-use Rattle.capture.specs.Capture.{answerAt, passed, partFrom, stepAt, Contents, stopped, followed, goesOn, contents}
+use Rattle.capture.specs.Capture.{readAt, passed, partFrom, stepAt, Contents, noMore, followed, readOn, contents}
 use Rattle.capture.proofs.Answers.{answer-of-front, four-are-no-end, record-within}
 
 -- a record read leaves the rest of the caller's own capture, beginning after it
 pub rest-after-record :
     (s : RefT (List ℕ)) (at : ℕ) {kind value : ℕ}
-    → answerAt (now s) at ≡ Record kind value
+    → readAt (now s) at ≡ Record kind value
     → partFrom s (stepAt (now s) at .next) ≡ from (at + 4) s
 rest-after-record s at h =
     let long : at + 4 ≤ length (now s) = omega (arith, record-within (drop at (now s)) h, length-drop at (now s)) in
     ap (λ (a : Answer). partFrom s (at + passed a)) h ∙ ap (λ (k : ℕ). from k s) (min-eq-left long)
 
 -- one turn of a loop over the records
-pub contents-turn : (c : List ℕ) → contents c ≡ goesOn (answer c) (contents (drop 4 c))
-unfolding contents answer
+pub contents-turn : (c : List ℕ) → contents c ≡ readOn (readFirst c) (contents (drop 4 c))
+unfolding contents readFirst
 contents-turn [] = refl
 contents-turn (a ∷ []) = refl
 contents-turn (a ∷ b ∷ []) = refl
@@ -34,13 +34,13 @@ contents-turn (a ∷ b ∷ d ∷ e ∷ c) = refl
 
 pub contents-at-record :
     (c : List ℕ) (at : ℕ) {kind value : ℕ}
-    → answerAt c at ≡ Record kind value → contents (drop at c) ≡ followed kind value (contents (drop (at + 4) c))
+    → readAt c at ≡ Record kind value → contents (drop at c) ≡ followed kind value (contents (drop (at + 4) c))
 contents-at-record c at {kind} {value} h =
     contents-turn (drop at c)
-    ∙ ap (λ (a : Answer). goesOn a (contents (drop 4 (drop at c)))) h
+    ∙ ap (λ (a : Answer). readOn a (contents (drop 4 (drop at c)))) h
     ∙ ap (λ (s : List ℕ). followed kind value (contents s)) (drop-drop 4 at c)
 
-stops : (a : Answer) (on : Contents) → passed a ≡ 0 → goesOn a on ≡ stopped a
+stops : (a : Answer) (on : Contents) → passed a ≡ 0 → readOn a on ≡ noMore a
 stops (Record kind value) on h = absurd (omega arith)
 stops Short on h = refl
 stops WrongMark on h = refl
@@ -48,10 +48,10 @@ stops WrongKind on h = refl
 stops WrongValue on h = refl
 stops End on h = refl
 
-pub contents-at-stop : (c : List ℕ) (at : ℕ) → passed (answerAt c at) ≡ 0 → contents (drop at c) ≡ stopped (answerAt c at)
-contents-at-stop c at h = contents-turn (drop at c) ∙ stops (answerAt c at) _ h
+pub contents-at-stop : (c : List ℕ) (at : ℕ) → passed (readAt c at) ≡ 0 → contents (drop at c) ≡ noMore (readAt c at)
+contents-at-stop c at h = contents-turn (drop at c) ∙ stops (readAt c at) _ h
 
-goes-on-to-stop : (a : Answer) (on : Contents) → passed (on .stop) ≡ 0 → passed (goesOn a on .stop) ≡ 0
+goes-on-to-stop : (a : Answer) (on : Contents) → passed (on .stop) ≡ 0 → passed (readOn a on .stop) ≡ 0
 goes-on-to-stop (Record kind value) on h = h
 goes-on-to-stop Short on h = refl
 goes-on-to-stop WrongMark on h = refl
@@ -61,12 +61,12 @@ goes-on-to-stop End on h = refl
 
 -- reading does not stop at a record
 pub contents-stop : (c : List ℕ) → passed (contents c .stop) ≡ 0
-unfolding contents answer
+unfolding contents readFirst
 contents-stop [] = refl
 contents-stop (a ∷ []) = refl
 contents-stop (a ∷ b ∷ []) = refl
 contents-stop (a ∷ b ∷ d ∷ []) = refl
-contents-stop (a ∷ b ∷ d ∷ e ∷ c) = goes-on-to-stop (answer (a ∷ b ∷ d ∷ e ∷ c)) (contents c) (contents-stop c)
+contents-stop (a ∷ b ∷ d ∷ e ∷ c) = goes-on-to-stop (readFirst (a ∷ b ∷ d ∷ e ∷ c)) (contents c) (contents-stop c)
 
 -- the contents of one part, then those of the next where the first was read to its end
 abbrev pub joinedAt : Answer → Contents → Contents → Contents
@@ -88,7 +88,7 @@ followed-joined WrongMark kind value x y = refl
 followed-joined WrongKind kind value x y = refl
 followed-joined WrongValue kind value x y = refl
 
-goes-on-joined : (a : Answer) (x y : Contents) → (a ≡ End → ⊥) → goesOn a (joined x y) ≡ joined (goesOn a x) y
+goes-on-joined : (a : Answer) (x y : Contents) → (a ≡ End → ⊥) → readOn a (joined x y) ≡ joined (readOn a x) y
 goes-on-joined (Record kind value) x y never = followed-joined (x .stop) kind value x y
 goes-on-joined Short x y never = refl
 goes-on-joined WrongMark x y never = refl
@@ -98,12 +98,12 @@ goes-on-joined End x y never = absurd (never refl)
 
 -- a capture cut into parts of whole records has the records of its parts
 pub contents-of-parts : (s t : List ℕ) → length s % 4 ≡ 0 → contents (s ++ t) ≡ joined (contents s) (contents t)
-unfolding contents answer
+unfolding contents readFirst
 contents-of-parts [] t h = refl
 contents-of-parts (a ∷ []) t h = absurd (omega arith)
 contents-of-parts (a ∷ b ∷ []) t h = absurd (omega arith)
 contents-of-parts (a ∷ b ∷ d ∷ []) t h = absurd (omega arith)
 contents-of-parts (a ∷ b ∷ d ∷ e ∷ s) t h =
-    ap (λ (x : Contents). goesOn (answer (a ∷ b ∷ d ∷ e ∷ (s ++ t))) x) (contents-of-parts s t (omega arith))
-    ∙ ap (λ (x : Answer). goesOn x (joined (contents s) (contents t))) (answer-of-front (a ∷ b ∷ d ∷ e ∷ s) t (omega arith))
-    ∙ goes-on-joined (answer (a ∷ b ∷ d ∷ e ∷ s)) (contents s) (contents t) (four-are-no-end a b d e s)
+    ap (λ (x : Contents). readOn (readFirst (a ∷ b ∷ d ∷ e ∷ (s ++ t))) x) (contents-of-parts s t (omega arith))
+    ∙ ap (λ (x : Answer). readOn x (joined (contents s) (contents t))) (answer-of-front (a ∷ b ∷ d ∷ e ∷ s) t (omega arith))
+    ∙ goes-on-joined (readFirst (a ∷ b ∷ d ∷ e ∷ s)) (contents s) (contents t) (four-are-no-end a b d e s)

@@ -1,3 +1,4 @@
+pub mod ByKind
 pub mod Answers
 pub mod Contents
 mod Held

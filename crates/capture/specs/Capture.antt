@@ -6,7 +6,7 @@ use denote.Ref.{RefT, now}
 use Rattle.capture.specs.declared.Answer.{Answer}
 use Rattle.capture.specs.declared.Answer.the-variants.{Record, Short, WrongMark, WrongKind, WrongValue, End}
 use Rattle.capture.specs.declared.Step.{Step}
-use Rattle.capture.specs.Record.{answer}
+use Rattle.capture.specs.Record.{readFirst}
 use Rattle.capture.specs.Part.{Part, from}
 
 -- how many bytes are passed: a record's four, or none
@@ -24,16 +24,16 @@ abbrev pub partFrom : RefT (List ℕ) → ℕ → Part
 partFrom s at = from (min at (length (now s))) s
 
 -- what stands at a position: at the beginning of the part from there on
-abbrev pub answerAt : List ℕ → ℕ → Answer
-answerAt c at = answer (drop at c)
+abbrev pub readAt : List ℕ → ℕ → Answer
+readAt c at = readFirst (drop at c)
 
 -- the position after the record at a position; where there is no record, that position
-abbrev pub after : List ℕ → ℕ → ℕ
-after c at = at + passed (answerAt c at)
+abbrev pub nextAt : List ℕ → ℕ → ℕ
+nextAt c at = at + passed (readAt c at)
 
 -- what stands at a position, and the position from which the rest is read
 abbrev pub stepAt : List ℕ → ℕ → Step
-stepAt c at = record { answer = answerAt c at; next = after c at }
+stepAt c at = record { answer = readAt c at; next = nextAt c at }
 
 -- a record's two numbers
 pub record Recorded : Type 0 where
@@ -45,25 +45,25 @@ pub record Contents : Type 0 where
   pub records : List Recorded
   pub stop : Answer
 
-abbrev pub stopped : Answer → Contents
-stopped a = record { records = []; stop = a }
+abbrev pub noMore : Answer → Contents
+noMore a = record { records = []; stop = a }
 
 abbrev pub followed : ℕ → ℕ → Contents → Contents
 followed kind value on = record { records = record { kind = kind; value = value } ∷ on .records; stop = on .stop }
 
 -- a record is followed by what comes after it; anything else stops the reading
-abbrev pub goesOn : Answer → Contents → Contents
-goesOn (Record kind value) on = followed kind value on
-goesOn Short on = stopped Short
-goesOn WrongMark on = stopped WrongMark
-goesOn WrongKind on = stopped WrongKind
-goesOn WrongValue on = stopped WrongValue
-goesOn End on = stopped End
+abbrev pub readOn : Answer → Contents → Contents
+readOn (Record kind value) on = followed kind value on
+readOn Short on = noMore Short
+readOn WrongMark on = noMore WrongMark
+readOn WrongKind on = noMore WrongKind
+readOn WrongValue on = noMore WrongValue
+readOn End on = noMore End
 
 -- by four bytes at a time; fewer are no record
 unfoldable pub contents : List ℕ → Contents
-contents [] = stopped (answer [])
-contents (a ∷ []) = stopped (answer (a ∷ []))
-contents (a ∷ b ∷ []) = stopped (answer (a ∷ b ∷ []))
-contents (a ∷ b ∷ d ∷ []) = stopped (answer (a ∷ b ∷ d ∷ []))
-contents (a ∷ b ∷ d ∷ e ∷ c) = goesOn (answer (a ∷ b ∷ d ∷ e ∷ c)) (contents c)
+contents [] = noMore (readFirst [])
+contents (a ∷ []) = noMore (readFirst (a ∷ []))
+contents (a ∷ b ∷ []) = noMore (readFirst (a ∷ b ∷ []))
+contents (a ∷ b ∷ d ∷ []) = noMore (readFirst (a ∷ b ∷ d ∷ []))
+contents (a ∷ b ∷ d ∷ e ∷ c) = readOn (readFirst (a ∷ b ∷ d ∷ e ∷ c)) (contents c)

@@ -11,5 +11,5 @@ abbrev pub over : RefT (List ℕ) → ℕ → Reader
 over capture at = record { capture = capture; at = at }
 
 -- what stands at its position, and where it reads next
-abbrev pub stepped : Reader → Step
-stepped r = stepAt (now (r .capture)) (r .at)
+abbrev pub readerStep : Reader → Step
+readerStep r = stepAt (now (r .capture)) (r .at)

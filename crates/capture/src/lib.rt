@@ -1,9 +1,10 @@
 // Captures: the record at the beginning of a capture or at a position of it, and a reader that holds the capture it was lent.
 ghost use mathlib.Core.Path.{_≡_};
-ghost use Rattle.capture.specs.Record.{marked, known, allowed, answer, number};
+ghost use Rattle.capture.specs.Kinds.{known, kindOf, allowed};
+ghost use Rattle.capture.specs.Record.{marked, readFirst, number};
 ghost use Rattle.capture.specs.Part.{lent};
 ghost use Rattle.capture.specs.Capture.{passed, partFrom, stepAt};
-ghost use Rattle.capture.specs.Reader.{over, stepped};
+ghost use Rattle.capture.specs.Reader.{over, readerStep};
 
 // What stands in a capture: a record with its two numbers, or why there is none.
 pub enum Answer {
@@ -61,18 +62,18 @@ fn known(kind: u8) -> bool
 
 // Which values a kind takes.
 fn allowed(kind: u8, value: u8) -> bool
-    ensures { λ r. ⌜ r ≡ allowed kind value ⌝ }
+    ensures { λ r. ⌜ r ≡ allowed (kindOf kind) value ⌝ }
 {
     match kind {
+        0 | 1 | 4 => true,
         2 | 3 | 5 => value == 0,
-        6 => value <= 1,
-        _ => true,
+        _ => value <= 1,
     }
 }
 
 // Reads the record at the beginning of a capture, or of the part of one that it is given.
 pub fn read(capture: &[u8]) -> Answer
-    ensures { λ r. ⌜ r ≡ answer (now (capture .entry)) ⌝ }
+    ensures { λ r. ⌜ r ≡ readFirst (now (capture .entry)) ⌝ }
 {
     if capture.len() == 0 {
         return Answer::End;
@@ -139,7 +140,7 @@ impl<'a> Reader<'a> {
 
     // What stands at the reader's position, and where it reads next.
     pub fn step(self) -> Step
-        ensures { λ r. ⌜ r ≡ stepped (self .entry) ⌝ }
+        ensures { λ r. ⌜ r ≡ readerStep (self .entry) ⌝ }
     {
         step_at(self.capture, self.at)
     }

@@ -19,28 +19,28 @@ use Rattle.calls.specs.Calls.{Called}
 use Rattle.capture.specs.declared.Answer.{Answer}
 use Rattle.capture.specs.declared.Answer.the-variants.{Record}
 use Rattle.capture.specs.Record.{number}
-use Rattle.capture.specs.Capture.{Contents, contents, answerAt, passed, after}
+use Rattle.capture.specs.Capture.{Contents, contents, readAt, passed, nextAt}
 use Rattle.capture.proofs.Answers.{record-within}
 use Rattle.capture.proofs.Contents.{contents-at-record, contents-at-stop}
-use Rattle.printed.specs.Text.{Answered, line, lines, Put, Counts, longestLine, hasRoom}
+use Rattle.printed.specs.Text.{RecordAnswer, line, lines, Put, Counts, longestLine, hasRoom}
 use Rattle.printed.proofs.Writing.{put-length, line-length, count-digits}
-use Rattle.playback.specs.Records.{recorded}
-use Rattle.playback.specs.Replay.{Replayed, halted, unroomed, answered, afterAnswer, Room, roomOf, roomFor, roomBehind, lineOf, obeyed, obeyedAll, replayed, lastOr, unanswered, toldBy}
-use Rattle.playback.specs.Transcript.{Ran, ran}
+use Rattle.playback.specs.Records.{recordCalled}
+use Rattle.playback.specs.Replay.{Replayed, halted, unroomed, answerFrom, afterAnswer, Room, roomOf, roomFor, roomBehind, recordLine, recordsReplayed, contentsReplayed, replayed, lastOr, unanswered, toldBy}
+use Rattle.playback.specs.Transcript.{Told, told}
 use Rattle.playback.specs.Statements.{afterAnswers}
-use Rattle.playback.proofs.Refused.{recorded-frame, recorded-length}
-use Rattle.playback.proofs.Once.{recorded-count}
+use Rattle.playback.proofs.Refused.{record-frame, record-length}
+use Rattle.playback.proofs.Once.{record-count}
 
-one-more : (before : List Answered) (a : Answered) (r : Replayed) → afterAnswers before (afterAnswer a r) ≡ afterAnswers (before ++ (a ∷ [])) r
-one-more before a r = ap (λ (l : List Answered). record { answers = l; ending = r .ending }) (sym (append-assoc before (a ∷ []) (r .answers)))
+one-more : (before : List RecordAnswer) (a : RecordAnswer) (r : Replayed) → afterAnswers before (afterAnswer a r) ≡ afterAnswers (before ++ (a ∷ [])) r
+one-more before a r = ap (λ (l : List RecordAnswer). record { answers = l; ending = r .ending }) (sym (append-assoc before (a ∷ []) (r .answers)))
 
-last-of-more : (d : Answered) (l : List Answered) (a : Answered) → lastOr d (l ++ (a ∷ [])) ≡ a
+last-of-more : (d : RecordAnswer) (l : List RecordAnswer) (a : RecordAnswer) → lastOr d (l ++ (a ∷ [])) ≡ a
 unfolding lastOr
 last-of-more d [] a = refl
 last-of-more d (b ∷ l) a = last-of-more b l a
 
 -- the line of one answer more stands behind those before it
-one-line : (n : ℕ) (before : List Answered) (a : Answered) → lines n (before ++ (a ∷ [])) ≡ lines n before ++ line (n + length before) a
+one-line : (n : ℕ) (before : List RecordAnswer) (a : RecordAnswer) → lines n (before ++ (a ∷ [])) ≡ lines n before ++ line (n + length before) a
 unfolding lines
 one-line n [] a = rw (append-nil, add-zero)
 one-line n (b ∷ before) a =
@@ -49,7 +49,7 @@ one-line n (b ∷ before) a =
     ∙ sym (append-assoc (line n b) (lines (n + 1) before) (line (n + length (b ∷ before)) a))
 
 one-told :
-    (telling : Bool) (n : ℕ) (before : List Answered) (a : Answered)
+    (telling : Bool) (n : ℕ) (before : List RecordAnswer) (a : RecordAnswer)
     → toldBy telling (lines n (before ++ (a ∷ []))) ≡ toldBy telling (lines n before) ++ toldBy telling (line (n + length before) a)
 one-told true n before a = one-line n before a
 one-told false n before a = refl
@@ -67,7 +67,7 @@ module _ (rest n : ℕ) where
       let b = and-both (leb (longestLine n) rest) (ltb n (2 ^ 64 - 1)) room in
       (leb-true (longestLine n) rest (b .0), ltb-true n (2 ^ 64 - 1) (b .1))
 
-  line-fits : (telling : Bool) (a : Answered) → roomFor (roomOf telling rest) n ≡ true → a .count ≤ 1024 → length (toldBy telling (line n a)) ≤ rest
+  line-fits : (telling : Bool) (a : RecordAnswer) → roomFor (roomOf telling rest) n ≡ true → a .count ≤ 1024 → length (toldBy telling (line n a)) ≤ rest
   line-fits true a room h = omega (arith, tested room .0, line-length n a, count-digits (a .count) h)
   line-fits false a room h = omega arith
 
@@ -78,39 +78,39 @@ module _ (rest n : ℕ) where
 module _ (e : Seen) (room : Room) (c : List ℕ) (s : State) (f : List ℕ) (n at : ℕ) where
   -- what is replayed from here on
   abbrev onward : Replayed
-  onward = obeyedAll e room (contents (drop at c)) s f n
+  onward = contentsReplayed e room (contents (drop at c)) s f n
 
-  module _ {kind value : ℕ} (k : Called) (h : answerAt c at ≡ Record kind value) (is : k ≡ recorded e kind value s f) where
+  module _ {kind value : ℕ} (k : Called) (h : readAt c at ≡ Record kind value) (is : k ≡ recordCalled e kind value s f) where
     -- an accepted record answers, and the rest is replayed on what it left
-    obeyed-record :
+    replayed-record :
         roomFor room n ≡ true
         → k .number ≡ 0
         → onward
-        ≡ afterAnswer (answered kind k) (obeyedAll e (roomBehind room (lineOf n kind k)) (contents (drop (at + 4) c)) (k .state) (k .frame) (n + 1))
-    unfolding obeyed
-    obeyed-record space z =
-        ap (λ (x : Contents). obeyedAll e room x s f n) (contents-at-record c at h) ∙ rw (space, ← is, eq-eqb (k .number) 0 z)
+        ≡ afterAnswer (answerFrom kind k) (contentsReplayed e (roomBehind room (recordLine n kind k)) (contents (drop (at + 4) c)) (k .state) (k .frame) (n + 1))
+    unfolding recordsReplayed
+    replayed-record space z =
+        ap (λ (x : Contents). contentsReplayed e room x s f n) (contents-at-record c at h) ∙ rw (space, ← is, eq-eqb (k .number) 0 z)
 
-    obeyed-refused : roomFor room n ≡ true → (k .number ≡ 0 → ⊥) → onward ≡ halted s f n (k .number)
-    unfolding obeyed
-    obeyed-refused space z =
-        ap (λ (x : Contents). obeyedAll e room x s f n) (contents-at-record c at h) ∙ rw (space, ← is, ne-eqb (k .number) 0 z)
+    replayed-refused : roomFor room n ≡ true → (k .number ≡ 0 → ⊥) → onward ≡ halted s f n (k .number)
+    unfolding recordsReplayed
+    replayed-refused space z =
+        ap (λ (x : Contents). contentsReplayed e room x s f n) (contents-at-record c at h) ∙ rw (space, ← is, ne-eqb (k .number) 0 z)
 
-  obeyed-unroomed : {kind value : ℕ} → answerAt c at ≡ Record kind value → roomFor room n ≡ false → onward ≡ unroomed s f n
-  unfolding obeyed
-  obeyed-unroomed h space = ap (λ (x : Contents). obeyedAll e room x s f n) (contents-at-record c at h) ∙ rw space
+  replayed-unroomed : {kind value : ℕ} → readAt c at ≡ Record kind value → roomFor room n ≡ false → onward ≡ unroomed s f n
+  unfolding recordsReplayed
+  replayed-unroomed h space = ap (λ (x : Contents). contentsReplayed e room x s f n) (contents-at-record c at h) ∙ rw space
 
-  obeyed-stop : passed (answerAt c at) ≡ 0 → onward ≡ halted s f n (number (answerAt c at))
-  unfolding obeyed
-  obeyed-stop h = ap (λ (x : Contents). obeyedAll e room x s f n) (contents-at-stop c at h)
+  replayed-stop : passed (readAt c at) ≡ 0 → onward ≡ halted s f n (number (readAt c at))
+  unfolding recordsReplayed
+  replayed-stop h = ap (λ (x : Contents). contentsReplayed e room x s f n) (contents-at-stop c at h)
 
 module _ (e : Seen) (telling : Bool) (c : List ℕ) (s₀ : State) (f₀ : List ℕ) (n₀ : ℕ) (text₀ : List ℕ) where
   -- what the loop is to leave
   abbrev pub whole : Replayed
   whole = replayed e (roomOf telling (length text₀)) c s₀ f₀ n₀
 
-  abbrev pub Leaves : Ran → Type 0
-  Leaves r = r ≡ ran telling n₀ text₀ whole
+  abbrev pub Leaves : Told → Type 0
+  Leaves r = r ≡ told telling n₀ text₀ whole
 
   module _ (m : ℕ) (is : m ≡ refusalOf (length f₀) (length (e .half)) (length (e .full))) where
     none-told : toldBy telling (lines n₀ []) ≡ []
@@ -131,14 +131,14 @@ module _ (e : Seen) (telling : Bool) (c : List ℕ) (s₀ : State) (f₀ : List 
     pub placed : n ≤ n₀ + at
     pub valid : Valid s
     pub framed : length f ≡ length f₀
-    pub before : List Answered
+    pub before : List RecordAnswer
     pub numbered : n ≡ n₀ + length before
     pub replies : lastOr unanswered before .reply ≡ reply
     pub counts : lastOr unanswered before .count ≡ count
     pub stands : text ≡ sets text₀ 0 (toldBy telling (lines n₀ before))
     pub follows : filled ≡ length (toldBy telling (lines n₀ before))
     pub inside : filled ≤ length text
-    pub same : whole ≡ afterAnswers before (obeyedAll e (roomOf telling (length text - filled)) (contents (drop at c)) s f n)
+    pub same : whole ≡ afterAnswers before (contentsReplayed e (roomOf telling (length text - filled)) (contents (drop at c)) s f n)
 
   pub begins :
       (m : ℕ)
@@ -163,10 +163,10 @@ module _ (e : Seen) (telling : Bool) (c : List ℕ) (s₀ : State) (f₀ : List 
   }
 
   module _ {s : State} {f : List ℕ} {n at reply count : ℕ} {text : List ℕ} {filled : ℕ} (g : Going s f n at reply count text filled) where
-    pub long : {kind value : ℕ} → answerAt c at ≡ Record kind value → at + 4 ≤ length c
+    pub long : {kind value : ℕ} → readAt c at ≡ Record kind value → at + 4 ≤ length c
     long h = omega (arith, record-within (drop at c) h, length-drop at c, g .within)
 
-    pub further : {kind value at' : ℕ} → answerAt c at ≡ Record kind value → at' ≡ after c at → at' ≡ at + 4
+    pub further : {kind value at' : ℕ} → readAt c at ≡ Record kind value → at' ≡ nextAt c at → at' ≡ at + 4
     further h next = next ∙ ap (λ (a : Answer). at + passed a) h
 
     pub sized : length text ≡ length text₀
@@ -180,37 +180,37 @@ module _ (e : Seen) (telling : Bool) (c : List ℕ) (s₀ : State) (f₀ : List 
         → Leaves (record { ending = r .ending; reply = reply; count = count; text = text; filled = filled })
     ended r none is =
         let all : whole ≡ record { answers = g .before; ending = r .ending } =
-        is ∙ ap (λ (l : List Answered). record { answers = g .before ++ l; ending = r .ending }) none
-        ∙ ap (λ (l : List Answered). record { answers = l; ending = r .ending }) (append-nil (g .before)) in
+        is ∙ ap (λ (l : List RecordAnswer). record { answers = g .before ++ l; ending = r .ending }) none
+        ∙ ap (λ (l : List RecordAnswer). record { answers = l; ending = r .ending }) (append-nil (g .before)) in
         rw (all, g .replies, g .counts, ← g .stands, ← g .follows)
 
     -- what is no record
     pub stops :
         (m : ℕ)
-        → passed (answerAt c at) ≡ 0
-        → m ≡ number (answerAt c at)
+        → passed (readAt c at) ≡ 0
+        → m ≡ number (readAt c at)
         → Leaves (record { ending = halted s f n m .ending; reply = reply; count = count; text = text; filled = filled })
-    stops m h is = rw is (ended (halted s f n (number (answerAt c at))) refl (g .same ∙ ap (afterAnswers (g .before)) (obeyed-stop e _ c s f n at h)))
+    stops m h is = rw is (ended (halted s f n (number (readAt c at))) refl (g .same ∙ ap (afterAnswers (g .before)) (replayed-stop e _ c s f n at h)))
 
     -- a record whose line might have no room
     pub is-full :
         {kind value : ℕ}
-        → answerAt c at ≡ Record kind value
+        → readAt c at ≡ Record kind value
         → roomFor (roomOf telling (length text - filled)) n ≡ false
         → Leaves (record { ending = unroomed s f n .ending; reply = reply; count = count; text = text; filled = filled })
-    is-full h space = ended (unroomed s f n) refl (g .same ∙ ap (afterAnswers (g .before)) (obeyed-unroomed e _ c s f n at h space))
+    is-full h space = ended (unroomed s f n) refl (g .same ∙ ap (afterAnswers (g .before)) (replayed-unroomed e _ c s f n at h space))
 
     module _
         {kind value : ℕ} (k : Called)
-        (h : answerAt c at ≡ Record kind value)
-        (is : k ≡ recorded e kind value s f)
+        (h : readAt c at ≡ Record kind value)
+        (is : k ≡ recordCalled e kind value s f)
         (space : roomFor (roomOf telling (length text - filled)) n ≡ true) where
-      pub room-for-line : filled + length (toldBy telling (lineOf n kind k)) ≤ length text
+      pub room-for-line : filled + length (toldBy telling (recordLine n kind k)) ≤ length text
       room-for-line =
           omega (
             arith,
             g .inside,
-            line-fits (length text - filled) n telling (answered kind k) space (omega (arith, ap (λ (x : Called). x .count) is, recorded-count e kind value s f)),
+            line-fits (length text - filled) n telling (answerFrom kind k) space (omega (arith, ap (λ (x : Called). x .count) is, record-count e kind value s f)),
           )
 
       -- the place can be counted on: by the room, or by the capture's length
@@ -222,45 +222,45 @@ module _ (e : Seen) (telling : Bool) (c : List ℕ) (s₀ : State) (f₀ : List 
           {left : List ℕ} {next : ℕ}
           → k .number ≡ 0
           → Valid (k .state)
-          → Put text filled (toldBy telling (lineOf n kind k)) left next
+          → Put text filled (toldBy telling (recordLine n kind k)) left next
           → Going (k .state) (k .frame) (n + 1) (at + 4) (k .reply) (k .count) left next
       turned {left} {next} z v p =
-          let a = answered kind k in
+          let a = answerFrom kind k in
           let more = last-of-more unanswered (g .before) a in
           let told = one-told telling n₀ (g .before) a ∙ ap (λ (i : ℕ). toldBy telling (lines n₀ (g .before)) ++ toldBy telling (line i a)) (sym (g .numbered)) in
-          let rest : length left - next ≡ length text - filled - length (toldBy telling (lineOf n kind k)) =
+          let rest : length left - next ≡ length text - filled - length (toldBy telling (recordLine n kind k)) =
           omega (arith, put-length p, p .follows) in
           record {
             within = long h;
             placed = omega (arith, g .placed);
             valid = v;
-            framed = ap (λ (x : Called). length (x .frame)) is ∙ recorded-length e kind value s f ∙ g .framed;
+            framed = ap (λ (x : Called). length (x .frame)) is ∙ record-length e kind value s f ∙ g .framed;
             before = g .before ++ (a ∷ []);
             numbered = omega (arith, g .numbered, length-append (g .before) (a ∷ []));
-            replies = ap (λ (x : Answered). x .reply) more;
-            counts = ap (λ (x : Answered). x .count) more;
+            replies = ap (λ (x : RecordAnswer). x .reply) more;
+            counts = ap (λ (x : RecordAnswer). x .count) more;
             stands =
                 p .stands
-                ∙ ap (λ (i : ℕ). sets text i (toldBy telling (lineOf n kind k))) (g .follows ∙ sym (zero-add _))
-                ∙ ap (λ (l : List ℕ). sets l (0 + length (toldBy telling (lines n₀ (g .before)))) (toldBy telling (lineOf n kind k))) (g .stands)
-                ∙ sym (sets-append text₀ 0 (toldBy telling (lines n₀ (g .before))) (toldBy telling (lineOf n kind k)))
+                ∙ ap (λ (i : ℕ). sets text i (toldBy telling (recordLine n kind k))) (g .follows ∙ sym (zero-add _))
+                ∙ ap (λ (l : List ℕ). sets l (0 + length (toldBy telling (lines n₀ (g .before)))) (toldBy telling (recordLine n kind k))) (g .stands)
+                ∙ sym (sets-append text₀ 0 (toldBy telling (lines n₀ (g .before))) (toldBy telling (recordLine n kind k)))
                 ∙ ap (sets text₀ 0) (sym told);
-            follows = p .follows ∙ omega (arith, g .follows, length-append (toldBy telling (lines n₀ (g .before))) (toldBy telling (lineOf n kind k))) ∙ ap length (sym told);
+            follows = p .follows ∙ omega (arith, g .follows, length-append (toldBy telling (lines n₀ (g .before))) (toldBy telling (recordLine n kind k))) ∙ ap length (sym told);
             inside = omega (arith, p .follows, put-length p, room-for-line);
             same =
                 g .same
-                ∙ ap (afterAnswers (g .before)) (obeyed-record e _ c s f n at k h is space z)
+                ∙ ap (afterAnswers (g .before)) (replayed-record e _ c s f n at k h is space z)
                 ∙ one-more (g .before) a _
-                ∙ ap (λ (r : Room). afterAnswers (g .before ++ (a ∷ [])) (obeyedAll e r (contents (drop (at + 4) c)) (k .state) (k .frame) (n + 1)))
-                (sym (ap (roomOf telling) rest ∙ room-behind telling (length text - filled) (lineOf n kind k)));
+                ∙ ap (λ (r : Room). afterAnswers (g .before ++ (a ∷ [])) (contentsReplayed e r (contents (drop (at + 4) c)) (k .state) (k .frame) (n + 1)))
+                (sym (ap (roomOf telling) rest ∙ room-behind telling (length text - filled) (recordLine n kind k)));
           }
 
       pub turns :
           {left : List ℕ} {next at' : ℕ}
-          → at' ≡ after c at
+          → at' ≡ nextAt c at
           → k .number ≡ 0
           → Valid (k .state)
-          → Put text filled (toldBy telling (lineOf n kind k)) left next
+          → Put text filled (toldBy telling (recordLine n kind k)) left next
           → Going (k .state) (k .frame) (n + 1) at' (k .reply) (k .count) left next
       turns moved z v p = rw (further h moved) (turned z v p)
 
@@ -269,5 +269,5 @@ module _ (e : Seen) (telling : Bool) (c : List ℕ) (s₀ : State) (f₀ : List 
           (k .number ≡ 0 → ⊥)
           → Leaves (record { ending = halted s (k .frame) n (k .number) .ending; reply = reply; count = count; text = text; filled = filled })
       refuses z =
-          rw (recorded-frame e kind value s f k is z)
-          (ended (halted s f n (k .number)) refl (g .same ∙ ap (afterAnswers (g .before)) (obeyed-refused e _ c s f n at k h is space z)))
+          rw (record-frame e kind value s f k is z)
+          (ended (halted s f n (k .number)) refl (g .same ∙ ap (afterAnswers (g .before)) (replayed-refused e _ c s f n at k h is space z)))

@@ -1,10 +1,11 @@
 -- Eight bits count once: at most one of them completes a byte, and a bit that completes none names nothing.
 use Prim.Native.Nat.{ℕ, zero, suc, _+_, _≤_}
 use mathlib.Core.Bool.{Bool, true, false}
-use mathlib.Core.List.{List, [], _∷_}
+use mathlib.Core.List.{List, [], _∷_, map}
 use mathlib.Core.Path.{_≡_, refl, sym, ap, _∙_, subst}
 use native.Mathlib.Omega.{arith}
 use lib.Dec.{eqb}
+use borrow.Author.Tests.{eqb-false}
 use lib.ListN.{length, replicate}
 use Rattle.base.specs.Bits as bits
 use Rattle.controller.specs.declared.Control.{Control}
@@ -16,6 +17,7 @@ use Rattle.links.specs.declared.Receiver.{Receiver}
 use Rattle.links.specs.declared.Received.{Received}
 use Rattle.links.specs.declared.Received.the-variants as received
 use Rattle.links.specs.declared.Heard.{Heard}
+use Rattle.events.specs.declared.Event.{Event}
 use Rattle.events.specs.declared.Event.the-variants.{Bit}
 use Rattle.links.specs.declared.Rest.the-variants.{Stays}
 use Rattle.links.specs.Taken.{deedOf, takenBy}
@@ -27,10 +29,12 @@ use Rattle.repaint.specs.Repaint.{named, countNamed}
 use Rattle.repaint.proofs.Counts.{count-nothing}
 use Rattle.calls.specs.State.{State, state}
 use Rattle.calls.specs.Calls.{Called, refused, accepted, called}
-use Rattle.playback.specs.Records.{heard, eightBits, recorded}
-use Rattle.playback.specs.Statements.{bitCounts, OneCounts, EightBitsCountOnce}
+use Rattle.capture.specs.Kinds.{kindOf}
+use Rattle.playback.specs.Records.{calledOn, calledInTurn, recordCalled}
+use Rattle.playback.specs.Statements.{countsInTurn, OneCounts, EightBitsCountOnce}
 use Rattle.calls.proofs.Kept.{called-count, called-length}
-use Rattle.playback.proofs.Refused.{of-each}
+use Rattle.playback.proofs.Bits.{lowest}
+use Rattle.playback.proofs.Refused.{one-or-bits, in-turn-accepted, in-turn-refused, one-in-turn}
 
 sum : List ℕ → ℕ
 sum [] = 0
@@ -90,28 +94,14 @@ one-counts (received.Byte register byte ∷ xs) (n ∷ ns) c h l k is =
       most = omega (arith, c .1);
     }
 
--- the lowest bits of a value, highest first
-lowest : ℕ → ℕ → List Bool
-lowest value zero = []
-lowest value (suc n) = bits.bit n value ∷ lowest value n
-
-length-lowest : (value n : ℕ) → length (lowest value n) ≡ n
-unfolding lowest
-length-lowest value zero = refl
-length-lowest value (suc n) = ap suc (length-lowest value n)
-
-module _ (e : Seen) (value : ℕ) where
+module _ (e : Seen) where
   abbrev Fits : List ℕ → Type 0
   Fits f = eqb (refusalOf (length f) (length (e .half)) (length (e .full))) 0 ≡ true
 
-  heard-sum : (n : ℕ) (s : State) (f : List ℕ) → heard e value n s f .count ≡ sum (bitCounts e value n s f)
-  unfolding heard bitCounts sum
-  heard-sum zero s f = refl
-  heard-sum (suc n) s f = ap (λ (i : ℕ). called e s f (Bit (bits.bit n value)) .count + i) (heard-sum n _ _)
-
-  some-count : (n : ℕ) (s : State) (f : List ℕ) → 1 ≤ length (bitCounts e value (suc n) s f)
-  unfolding bitCounts
-  some-count n s f = omega arith
+  in-turn-sum : (reply : ℕ) (s : State) (f : List ℕ) (events : List Event) → calledOn e reply s f events .count ≡ sum (countsInTurn e s f events)
+  unfolding calledOn countsInTurn sum
+  in-turn-sum reply s f [] = refl
+  in-turn-sum reply s f (event ∷ events) = ap (λ (i : ℕ). called e s f event .count + i) (in-turn-sum _ _ _ events)
 
   -- on the serial link a bit is heard
   abbrev heardCall : Memories → Control → List ℕ → Heard → Called
@@ -129,69 +119,81 @@ module _ (e : Seen) (value : ℕ) where
   quiet m c f h is = rw is (count-nothing (c .view) (m .text))
 
   bits-counted :
-      (n : ℕ) (m : Memories) (c : Control) (r : Receiver) (f : List ℕ)
+      (bs : List Bool) (m : Memories) (c : Control) (r : Receiver) (f : List ℕ)
       → Fits f
-      → Counted (serial.listened r (lowest value n) .brought) (bitCounts e value n (state m c (Serial r)) f)
-  unfolding Counted lowest serial.listened bitCounts
-  bits-counted zero m c r f fits = tt
-  bits-counted (suc n) m c r f fits =
-      let b = bits.bit n value in
+      → Counted (serial.listened r bs .brought) (countsInTurn e (state m c (Serial r)) f (map Bit bs))
+  unfolding Counted serial.listened countsInTurn
+  bits-counted [] m c r f fits = tt
+  bits-counted (b ∷ bs) m c r f fits =
       let is = taken-bit m c r f b fits in
       let long : length (heardCall m c f (serial.heard r b) .frame) ≡ length f =
       ap (λ (k : Called). length (k .frame)) (sym is) ∙ called-length e (state m c (Serial r)) f (Bit b) in
       rw is (
         quiet m c f (serial.heard r b),
         subst (λ (k : Called). k .count ≤ 1024) is (called-count e (state m c (Serial r)) f (Bit b)),
-        bits-counted n _ _ (serial.heard r b .receiver) _ (rw long fits),
+        bits-counted bs _ _ (serial.heard r b .receiver) _ (rw long fits),
       )
 
   -- on a panel that refuses every bit, none is heard
   module _ (s : State) (f : List ℕ) (x : ℕ) (some : eqb x 0 ≡ false) (h : (b : Bool) → called e s f (Bit b) ≡ refused s f x) where
-    no-counts : (n : ℕ) → bitCounts e value n s f ≡ replicate n 0
-    unfolding bitCounts
-    no-counts zero = refl
-    no-counts (suc n) = rw (h (bits.bit n value)) (ap (λ (l : List ℕ). 0 ∷ l) (no-counts n))
+    no-counts : (bs : List Bool) → countsInTurn e s f (map Bit bs) ≡ replicate (length bs) 0
+    unfolding countsInTurn
+    no-counts [] = refl
+    no-counts (b ∷ bs) = rw (h b) (ap (λ (l : List ℕ). 0 ∷ l) (no-counts bs))
 
-    no-count : eightBits e value s f .count ≡ 0
-    unfolding eightBits
-    no-count = rw (h (bits.bit 7 value), some)
+    no-count : (b : Bool) (bs : List Bool) → calledInTurn e s f (map Bit (b ∷ bs)) .count ≡ 0
+    no-count b bs =
+        ap (λ (k : Called). k .count)
+        (in-turn-refused e s f (Bit b) (map Bit bs) (λ z. eqb-false x 0 some (ap (λ (k : Called). k .number) (sym (h b)) ∙ z)) ∙ h b)
 
-    refused-once : OneCounts (bitCounts e value 8 s f) (eightBits e value s f .count)
-    refused-once = rw no-count (record { before = 0; after = 7; alone = no-counts 8; most = omega arith })
+    refused-once : (b : Bool) (bs : List Bool) → OneCounts (countsInTurn e s f (map Bit (b ∷ bs))) (calledInTurn e s f (map Bit (b ∷ bs)) .count)
+    refused-once b bs = rw (no-count b bs) (record { before = 0; after = length bs; alone = no-counts (b ∷ bs); most = omega arith })
 
-  heard-count :
-      (m : Memories) (c : Control) (r : Receiver) (f : List ℕ)
-      → Fits f
-      → eightBits e value (state m c (Serial r)) f .count ≡ heard e value 8 (state m c (Serial r)) f .count
-  unfolding eightBits
-  heard-count m c r f fits = rw (taken-bit m c r f (bits.bit 7 value) fits)
+  module _ (m : Memories) (c : Control) (b : Bool) (bs : List Bool) where
+    abbrev counts : Link → List ℕ → List ℕ
+    counts l f = countsInTurn e (state m c l) f (map Bit (b ∷ bs))
 
-  heard-once :
-      (m : Memories) (c : Control) (r : Receiver) (f : List ℕ)
-      → Fits f
-      → OneCounts (bitCounts e value 8 (state m c (Serial r)) f) (eightBits e value (state m c (Serial r)) f .count)
-  heard-once m c r f fits =
-      one-counts (serial.listened r (lowest value 8) .brought) (bitCounts e value 8 (state m c (Serial r)) f)
-      (bits-counted 8 m c r f fits)
-      (at-most-one-byte r (lowest value 8) (omega (arith, length-lowest value 8)))
-      (some-count 7 (state m c (Serial r)) f)
-      (eightBits e value (state m c (Serial r)) f .count)
-      (heard-count m c r f fits ∙ heard-sum 8 (state m c (Serial r)) f)
+    abbrev count : Link → List ℕ → ℕ
+    count l f = calledInTurn e (state m c l) f (map Bit (b ∷ bs)) .count
 
-  by-link :
-      (m : Memories) (c : Control) (f : List ℕ) (t : Bool)
-      → eqb (refusalOf (length f) (length (e .half)) (length (e .full))) 0 ≡ t
-      → (l : Link)
-      → OneCounts (bitCounts e value 8 (state m c l) f) (eightBits e value (state m c l) f .count)
-  unfolding called takenBy
-  by-link m c f false q l = refused-once (state m c l) f (refusalOf (length f) (length (e .half)) (length (e .full))) q (λ b. rw q)
-  by-link m c f true q (Parallel p) = refused-once (state m c (Parallel p)) f 5 refl (λ b. rw q)
-  by-link m c f true q (Serial r) = heard-once m c r f q
+    heard-count : (r : Receiver) (f : List ℕ) → Fits f → count (Serial r) f ≡ calledOn e 0 (state m c (Serial r)) f (map Bit (b ∷ bs)) .count
+    heard-count r f fits =
+        ap (λ (k : Called). k .count)
+        (in-turn-accepted e (state m c (Serial r)) f (Bit b) (map Bit bs) (ap (λ (k : Called). k .number) (taken-bit m c r f b fits)))
+
+    some-count : (s : State) (f : List ℕ) → 1 ≤ length (countsInTurn e s f (map Bit (b ∷ bs)))
+    unfolding countsInTurn
+    some-count s f = omega arith
+
+    heard-once : (r : Receiver) (f : List ℕ) → length bs ≤ 15 → Fits f → OneCounts (counts (Serial r) f) (count (Serial r) f)
+    heard-once r f few fits =
+        one-counts (serial.listened r (b ∷ bs) .brought) (counts (Serial r) f)
+        (bits-counted (b ∷ bs) m c r f fits)
+        (at-most-one-byte r (b ∷ bs) (omega (arith, few)))
+        (some-count (state m c (Serial r)) f)
+        (count (Serial r) f)
+        (heard-count r f fits ∙ in-turn-sum 0 (state m c (Serial r)) f (map Bit (b ∷ bs)))
+
+    by-link :
+        (f : List ℕ) (t : Bool)
+        → length bs ≤ 15
+        → eqb (refusalOf (length f) (length (e .half)) (length (e .full))) 0 ≡ t
+        → (l : Link)
+        → OneCounts (counts l f) (count l f)
+    unfolding called takenBy
+    by-link f false few q l = refused-once (state m c l) f (refusalOf (length f) (length (e .half)) (length (e .full))) q (λ b. rw q) b bs
+    by-link f true few q (Parallel p) = refused-once (state m c (Parallel p)) f 5 refl (λ b. rw q) b bs
+    by-link f true few q (Serial r) = heard-once r f few q
 
 pub eight-bits-count-once : EightBitsCountOnce
-eight-bits-count-once e value s frame = by-link e value (s .memories) (s .control) frame _ refl (s .link)
+unfolding lowest
+eight-bits-count-once e value s frame =
+    by-link e (s .memories) (s .control) (bits.bit 7 value) (lowest value 7) frame _ (omega arith) refl (s .link)
 
 -- so a record's count is one call's
-pub recorded-count : (e : Seen) (kind value : ℕ) (s : State) (frame : List ℕ) → recorded e kind value s frame .count ≤ 1024
-recorded-count e kind value s frame =
-    of-each (λ (k : Called). k .count ≤ 1024) e kind value s frame (called-count e s frame) (eight-bits-count-once e value s frame .most)
+pub record-count : (e : Seen) (kind value : ℕ) (s : State) (frame : List ℕ) → recordCalled e kind value s frame .count ≤ 1024
+unfolding recordCalled
+record-count e kind value s frame =
+    one-or-bits (λ (events : List Event). calledInTurn e s frame events .count ≤ 1024) (kindOf kind) value
+    (λ event. rw (one-in-turn e s frame event) (called-count e s frame event))
+    (eight-bits-count-once e value s frame .most)

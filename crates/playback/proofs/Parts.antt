@@ -17,24 +17,24 @@ use Rattle.capture.specs.declared.Answer.the-variants.{Record, Short, WrongMark
 use Rattle.capture.specs.Record.{number}
 use Rattle.capture.specs.Capture.{Recorded, Contents, contents, passed}
 use Rattle.capture.proofs.Contents.{joinedAt, contents-of-parts, contents-stop}
-use Rattle.playback.specs.Records.{recorded}
-use Rattle.printed.specs.Text.{Answered}
-use Rattle.playback.specs.Replay.{Replayed, endless, halted, answered, afterAnswer, obeyed, obeyedAll, replayed}
+use Rattle.playback.specs.Records.{recordCalled}
+use Rattle.printed.specs.Text.{RecordAnswer}
+use Rattle.playback.specs.Replay.{Replayed, endless, halted, answerFrom, afterAnswer, recordsReplayed, contentsReplayed, replayed}
 use Rattle.playback.specs.Statements.{afterAnswers, goneOn, PartsReplayAsWhole}
-use Rattle.playback.proofs.Refused.{recorded-length}
+use Rattle.playback.proofs.Refused.{record-length}
 
 module _ (e : Seen) where
   -- a replay that came to its end goes on with more records
   abbrev goneOver : Contents → Replayed → Replayed
   goneOver c r =
-      if eqb (r .ending .number) 0 then afterAnswers (r .answers) (obeyedAll e endless c (r .ending .state) (r .ending .frame) (r .ending .place))
+      if eqb (r .ending .number) 0 then afterAnswers (r .answers) (contentsReplayed e endless c (r .ending .state) (r .ending .frame) (r .ending .place))
       else r
 
-  answer-first : (a : Answered) (c : Contents) (r : Replayed) → afterAnswer a (goneOver c r) ≡ goneOver c (afterAnswer a r)
+  answer-first : (a : RecordAnswer) (c : Contents) (r : Replayed) → afterAnswer a (goneOver c r) ≡ goneOver c (afterAnswer a r)
   answer-first a c r = by (eqb (r .ending .number) 0)
     where
       more : Replayed
-      more = obeyedAll e endless c (r .ending .state) (r .ending .frame) (r .ending .place)
+      more = contentsReplayed e endless c (r .ending .state) (r .ending .frame) (r .ending .place)
 
       by :
           (t : Bool)
@@ -43,54 +43,54 @@ module _ (e : Seen) where
       by true = refl
       by false = refl
 
-  obeyed-joined :
+  replayed-joined :
       (xs : List Recorded) (c : Contents) (s : State) (f : List ℕ) (n : ℕ)
-      → obeyed e (number (c .stop)) endless (xs ++ c .records) s f n ≡ goneOver c (obeyed e 0 endless xs s f n)
-  unfolding obeyed
-  obeyed-joined [] c s f n = refl
-  obeyed-joined (r ∷ xs) c s f n = by (obeyed-joined xs c (k .state) (k .frame) (n + 1)) (eqb (k .number) 0) refl
+      → recordsReplayed e (number (c .stop)) endless (xs ++ c .records) s f n ≡ goneOver c (recordsReplayed e 0 endless xs s f n)
+  unfolding recordsReplayed
+  replayed-joined [] c s f n = refl
+  replayed-joined (r ∷ xs) c s f n = by (replayed-joined xs c (k .state) (k .frame) (n + 1)) (eqb (k .number) 0) refl
     where
       k : Called
-      k = recorded e (r .kind) (r .value) s f
+      k = recordCalled e (r .kind) (r .value) s f
 
       by :
-          obeyed e (number (c .stop)) endless (xs ++ c .records) (k .state) (k .frame) (n + 1) ≡ goneOver c (obeyed e 0 endless xs (k .state) (k .frame) (n + 1))
+          recordsReplayed e (number (c .stop)) endless (xs ++ c .records) (k .state) (k .frame) (n + 1) ≡ goneOver c (recordsReplayed e 0 endless xs (k .state) (k .frame) (n + 1))
           → (t : Bool)
           → eqb (k .number) 0 ≡ t
-          → (if t then afterAnswer (answered (r .kind) k) (obeyed e (number (c .stop)) endless (xs ++ c .records) (k .state) (k .frame) (n + 1)) else halted s f n (k .number))
-          ≡ goneOver c (if t then afterAnswer (answered (r .kind) k) (obeyed e 0 endless xs (k .state) (k .frame) (n + 1)) else halted s f n (k .number))
+          → (if t then afterAnswer (answerFrom (r .kind) k) (recordsReplayed e (number (c .stop)) endless (xs ++ c .records) (k .state) (k .frame) (n + 1)) else halted s f n (k .number))
+          ≡ goneOver c (if t then afterAnswer (answerFrom (r .kind) k) (recordsReplayed e 0 endless xs (k .state) (k .frame) (n + 1)) else halted s f n (k .number))
       by rest true q =
-          ap (afterAnswer (answered (r .kind) k)) rest
-          ∙ answer-first (answered (r .kind) k) c (obeyed e 0 endless xs (k .state) (k .frame) (n + 1))
+          ap (afterAnswer (answerFrom (r .kind) k)) rest
+          ∙ answer-first (answerFrom (r .kind) k) c (recordsReplayed e 0 endless xs (k .state) (k .frame) (n + 1))
       by rest false q = rw q
 
   -- a replay of what ends in a refusal is refused
   stays-refused :
-      (last : ℕ) → eqb last 0 ≡ false → (xs : List Recorded) (s : State) (f : List ℕ) (n : ℕ) → eqb (obeyed e last endless xs s f n .ending .number) 0 ≡ false
-  unfolding obeyed
+      (last : ℕ) → eqb last 0 ≡ false → (xs : List Recorded) (s : State) (f : List ℕ) (n : ℕ) → eqb (recordsReplayed e last endless xs s f n .ending .number) 0 ≡ false
+  unfolding recordsReplayed
   stays-refused last h [] s f n = h
   stays-refused last h (r ∷ xs) s f n =
-      either-told (λ (x : Replayed). eqb (x .ending .number) 0 ≡ false) (eqb (recorded e (r .kind) (r .value) s f .number) 0)
+      either-told (λ (x : Replayed). eqb (x .ending .number) 0 ≡ false) (eqb (recordCalled e (r .kind) (r .value) s f .number) 0)
       (λ t. stays-refused last h xs _ _ _)
       (λ t. t)
 
-  obeyed-by-stop :
+  replayed-by-stop :
       (xs : List Recorded) (a : Answer) (c : Contents) (s : State) (f : List ℕ) (n : ℕ)
       → passed a ≡ 0
-      → obeyedAll e endless (joinedAt a (record { records = xs; stop = a }) c) s f n ≡ goneOver c (obeyed e (number a) endless xs s f n)
-  obeyed-by-stop xs (Record kind value) c s f n h = absurd (omega arith)
-  obeyed-by-stop xs End c s f n h = obeyed-joined xs c s f n
-  obeyed-by-stop xs Short c s f n h = rw (stays-refused 6 refl xs s f n)
-  obeyed-by-stop xs WrongMark c s f n h = rw (stays-refused 7 refl xs s f n)
-  obeyed-by-stop xs WrongKind c s f n h = rw (stays-refused 8 refl xs s f n)
-  obeyed-by-stop xs WrongValue c s f n h = rw (stays-refused 9 refl xs s f n)
+      → contentsReplayed e endless (joinedAt a (record { records = xs; stop = a }) c) s f n ≡ goneOver c (recordsReplayed e (number a) endless xs s f n)
+  replayed-by-stop xs (Record kind value) c s f n h = absurd (omega arith)
+  replayed-by-stop xs End c s f n h = replayed-joined xs c s f n
+  replayed-by-stop xs Short c s f n h = rw (stays-refused 6 refl xs s f n)
+  replayed-by-stop xs WrongMark c s f n h = rw (stays-refused 7 refl xs s f n)
+  replayed-by-stop xs WrongKind c s f n h = rw (stays-refused 8 refl xs s f n)
+  replayed-by-stop xs WrongValue c s f n h = rw (stays-refused 9 refl xs s f n)
 
-  obeyed-length : (last : ℕ) (xs : List Recorded) (s : State) (f : List ℕ) (n : ℕ) → length (obeyed e last endless xs s f n .ending .frame) ≡ length f
-  unfolding obeyed
-  obeyed-length last [] s f n = refl
-  obeyed-length last (r ∷ xs) s f n =
-      either (λ (x : Replayed). length (x .ending .frame) ≡ length f) (eqb (recorded e (r .kind) (r .value) s f .number) 0)
-      (obeyed-length last xs _ _ _ ∙ recorded-length e (r .kind) (r .value) s f)
+  replayed-length : (last : ℕ) (xs : List Recorded) (s : State) (f : List ℕ) (n : ℕ) → length (recordsReplayed e last endless xs s f n .ending .frame) ≡ length f
+  unfolding recordsReplayed
+  replayed-length last [] s f n = refl
+  replayed-length last (r ∷ xs) s f n =
+      either (λ (x : Replayed). length (x .ending .frame) ≡ length f) (eqb (recordCalled e (r .kind) (r .value) s f .number) 0)
+      (replayed-length last xs _ _ _ ∙ record-length e (r .kind) (r .value) s f)
       refl
 
   -- where frame and fonts are not refused, nothing is asked of them again
@@ -115,10 +115,10 @@ parts-replay-as-whole e part more s f n h = by (eqb (refusalOf (length f) (lengt
     by :
         (t : Bool)
         → eqb m 0 ≡ t
-        → (if t then obeyedAll e endless (contents (part ++ more)) s f n else halted s f n m)
-        ≡ goneOn e more (if t then obeyedAll e endless x s f n else halted s f n m)
+        → (if t then contentsReplayed e endless (contents (part ++ more)) s f n else halted s f n m)
+        ≡ goneOn e more (if t then contentsReplayed e endless x s f n else halted s f n m)
     by true q =
-        ap (λ (c : Contents). obeyedAll e endless c s f n) (contents-of-parts part more h)
-        ∙ obeyed-by-stop e (x .records) (x .stop) (contents more) s f n (contents-stop part)
-        ∙ let-in-again e more f (obeyedAll e endless x s f n) q (obeyed-length e (number (x .stop)) (x .records) s f n)
+        ap (λ (c : Contents). contentsReplayed e endless c s f n) (contents-of-parts part more h)
+        ∙ replayed-by-stop e (x .records) (x .stop) (contents more) s f n (contents-stop part)
+        ∙ let-in-again e more f (contentsReplayed e endless x s f n) q (replayed-length e (number (x .stop)) (x .records) s f n)
     by false q = rw q

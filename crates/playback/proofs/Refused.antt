@@ -1,67 +1,101 @@
--- Laws of a record: a refused one has no effect, a frame keeps its length, and no count passes that of the frame's bytes.
-use Prim.Native.Nat.{ℕ, zero, suc}
-use mathlib.Core.List.{List}
-use mathlib.Core.Path.{_≡_, refl, ap, _∙_}
+-- Laws of a record: a refused one has no effect, a frame keeps its length, and one event is a call.
+use Prim.Native.Nat.{ℕ}
+use mathlib.Core.List.{List, [], _∷_, map}
+use mathlib.Core.Path.{_≡_, refl, sym, ap, _∙_}
+use native.Mathlib.Nat.{add-zero}
+use borrow.Author.Tests.{eqb-true, eqb-false, eq-eqb, ne-eqb}
 use lib.Dec.{eqb}
 use lib.ListN.{length}
-use Rattle.base.specs.Bits as bits
-use Rattle.base.proofs.Choice.{either}
+use Rattle.base.proofs.Choice.{either, by-test}
 use Rattle.events.specs.declared.Event.{Event}
 use Rattle.events.specs.declared.Event.the-variants.{Bit}
+use Rattle.links.specs.Items.{highestFirst}
 use Rattle.picture.specs.Picture.{Seen}
+use Rattle.capture.specs.Kinds.{Kind, instructionWrite, dataWrite, statusRead, dataRead, eightBits, selectLow, reset, kindOf}
 use Rattle.calls.specs.State.{State}
 use Rattle.calls.specs.Calls.{Called, refused, called}
 use Rattle.calls.proofs.Kept.{Unmoved, called-unmoved, called-length}
-use Rattle.playback.specs.Records.{heard, eightBits, recorded}
+use Rattle.playback.specs.Records.{asks, eventsOf, calledOn, firstNumber, calledInTurn, recordCalled}
 
--- what is heard is no refusal
-pub heard-accepted : (e : Seen) (value left : ℕ) (s : State) (frame : List ℕ) → heard e value left s frame .number ≡ 0
-unfolding heard
-heard-accepted e value zero s frame = refl
-heard-accepted e value (suc left) s frame = heard-accepted e value left _ _
+-- a record asks for one event, or for the bits of its value
+pub one-or-bits :
+    (P : List Event → Type 0) (kind : Kind) (value : ℕ)
+    → ((event : Event) → P (event ∷ []))
+    → P (map Bit (highestFirst value))
+    → P (asks kind value)
+one-or-bits P instructionWrite value one bits = one _
+one-or-bits P dataWrite value one bits = one _
+one-or-bits P statusRead value one bits = one _
+one-or-bits P dataRead value one bits = one _
+one-or-bits P eightBits value one bits = bits
+one-or-bits P selectLow value one bits = one _
+one-or-bits P reset value one bits = one _
 
-pub eight-unmoved : (e : Seen) (value : ℕ) (s : State) (frame : List ℕ) → Unmoved s frame (eightBits e value s frame)
-unfolding eightBits
-eight-unmoved e value s frame =
-    either (Unmoved s frame) (eqb (called e s frame (Bit (bits.bit 7 value)) .number) 0)
-    (λ h. absurd (h (heard-accepted e value 8 s frame)))
-    (λ h. refl)
+-- what is called in turn is no refusal
+pub called-on-accepted : (e : Seen) (reply : ℕ) (s : State) (frame : List ℕ) (events : List Event) → calledOn e reply s frame events .number ≡ 0
+unfolding calledOn
+called-on-accepted e reply s frame [] = refl
+called-on-accepted e reply s frame (event ∷ events) = called-on-accepted e _ _ _ events
 
-heard-length : (e : Seen) (value left : ℕ) (s : State) (frame : List ℕ) → length (heard e value left s frame .frame) ≡ length frame
-unfolding heard
-heard-length e value zero s frame = refl
-heard-length e value (suc left) s frame = heard-length e value left _ _ ∙ called-length e s frame _
+called-on-length :
+    (e : Seen) (reply : ℕ) (s : State) (frame : List ℕ) (events : List Event) → length (calledOn e reply s frame events .frame) ≡ length frame
+unfolding calledOn
+called-on-length e reply s frame [] = refl
+called-on-length e reply s frame (event ∷ events) = called-on-length e _ _ _ events ∙ called-length e s frame event
 
-eight-length : (e : Seen) (value : ℕ) (s : State) (frame : List ℕ) → length (eightBits e value s frame .frame) ≡ length frame
-unfolding eightBits
-eight-length e value s frame =
-    either (λ (k : Called). length (k .frame) ≡ length frame) (eqb (called e s frame (Bit (bits.bit 7 value)) .number) 0)
-    (heard-length e value 8 s frame)
-    refl
+module _ (e : Seen) (s : State) (frame : List ℕ) where
+  in-turn-unmoved : (events : List Event) → Unmoved s frame (calledInTurn e s frame events)
+  unfolding calledInTurn
+  in-turn-unmoved events =
+      either (Unmoved s frame) (eqb (firstNumber e s frame events) 0) (λ h. absurd (h (called-on-accepted e 0 s frame events))) (λ h. refl)
 
--- what holds after every call and after eight bits holds after every record
-pub of-each :
-    (P : Called → Type 0) (e : Seen) (kind value : ℕ) (s : State) (frame : List ℕ)
-    → ((event : Event) → P (called e s frame event))
-    → P (eightBits e value s frame)
-    → P (recorded e kind value s frame)
-unfolding recorded
-of-each P e kind value s frame p q = either P (eqb kind 4) q (p _)
+  in-turn-length : (events : List Event) → length (calledInTurn e s frame events .frame) ≡ length frame
+  unfolding calledInTurn
+  in-turn-length events =
+      either (λ (k : Called). length (k .frame) ≡ length frame) (eqb (firstNumber e s frame events) 0) (called-on-length e 0 s frame events) refl
 
--- earlier records stand, the refused one has no effect
-pub recorded-unmoved : (e : Seen) (kind value : ℕ) (s : State) (frame : List ℕ) → Unmoved s frame (recorded e kind value s frame)
-recorded-unmoved e kind value s frame =
-    of-each (Unmoved s frame) e kind value s frame (called-unmoved e s frame) (eight-unmoved e value s frame)
+  module _ (event : Event) (events : List Event) where
+    -- the first event is accepted, and all are called
+    pub in-turn-accepted : called e s frame event .number ≡ 0 → calledInTurn e s frame (event ∷ events) ≡ calledOn e 0 s frame (event ∷ events)
+    unfolding calledInTurn
+    in-turn-accepted z = rw (eq-eqb (called e s frame event .number) 0 z)
 
-pub recorded-length : (e : Seen) (kind value : ℕ) (s : State) (frame : List ℕ) → length (recorded e kind value s frame .frame) ≡ length frame
-recorded-length e kind value s frame =
-    of-each (λ (k : Called). length (k .frame) ≡ length frame) e kind value s frame (called-length e s frame) (eight-length e value s frame)
+    -- or refused, and none is
+    pub in-turn-refused : (called e s frame event .number ≡ 0 → ⊥) → calledInTurn e s frame (event ∷ events) ≡ called e s frame event
+    unfolding calledInTurn
+    in-turn-refused z = rw (ne-eqb (called e s frame event .number) 0 z) (sym (called-unmoved e s frame event z))
 
--- the frame is what it was
-pub recorded-frame :
-    (e : Seen) (kind value : ℕ) (s : State) (frame : List ℕ) (k : Called)
-    → k ≡ recorded e kind value s frame
-    → (k .number ≡ 0 → ⊥)
-    → k .frame ≡ frame
-recorded-frame e kind value s frame k is z =
-    ap (λ (x : Called). x .frame) (is ∙ recorded-unmoved e kind value s frame (λ y. z (ap (λ (x : Called). x .number) is ∙ y)))
+  -- an event by itself is a call
+  pub one-in-turn : (event : Event) → calledInTurn e s frame (event ∷ []) ≡ called e s frame event
+  unfolding calledOn
+  one-in-turn event =
+      let k = called e s frame event in
+      by-test (eqb (k .number) 0)
+      (λ t. let z = eqb-true (k .number) 0 t in
+      in-turn-accepted event [] z
+      ∙ rw add-zero (ap (λ (n : ℕ). record { state = k .state; number = n; reply = k .reply; count = k .count; frame = k .frame }) (sym z)))
+      (λ t. in-turn-refused event [] (eqb-false (k .number) 0 t))
+
+module _ (e : Seen) (kind value : ℕ) (s : State) (frame : List ℕ) where
+  -- earlier records stand, the refused one has no effect
+  pub record-unmoved : Unmoved s frame (recordCalled e kind value s frame)
+  unfolding recordCalled
+  record-unmoved = in-turn-unmoved e s frame _
+
+  pub record-length : length (recordCalled e kind value s frame .frame) ≡ length frame
+  unfolding recordCalled
+  record-length = in-turn-length e s frame _
+
+  -- the frame is what it was
+  pub record-frame : (k : Called) → k ≡ recordCalled e kind value s frame → (k .number ≡ 0 → ⊥) → k .frame ≡ frame
+  record-frame k is z = ap (λ (x : Called). x .frame) (is ∙ record-unmoved (λ y. z (ap (λ (x : Called). x .number) is ∙ y)))
+
+  -- a record is its one event, or its eight bits
+  module _ (k : Called) where
+    pub record-of-one : (event : Event) → k ≡ called e s frame event → event ∷ [] ≡ eventsOf kind value → k ≡ recordCalled e kind value s frame
+    unfolding recordCalled
+    record-of-one event is asked = is ∙ sym (one-in-turn e s frame event) ∙ ap (calledInTurn e s frame) asked
+
+    pub record-of-bits : kind ≡ 4 → k ≡ calledInTurn e s frame (asks eightBits value) → k ≡ recordCalled e kind value s frame
+    unfolding recordCalled kindOf
+    record-of-bits four is = is ∙ rw four

@@ -14,12 +14,12 @@ use Rattle.calls.specs.State.{State}
 use Rattle.calls.specs.Calls.{Called}
 use Rattle.capture.specs.Record.{number}
 use Rattle.capture.specs.Capture.{Recorded, contents}
-use Rattle.printed.specs.Text.{Answered, line, longestLine, hasRoom}
+use Rattle.printed.specs.Text.{RecordAnswer, line, longestLine, hasRoom}
 use Rattle.printed.proofs.Writing.{decimal-length, line-length, count-digits}
-use Rattle.playback.specs.Records.{recorded}
-use Rattle.playback.specs.Replay.{Replayed, halted, answered, goesOn, endless, bytes, obeyed, replayed}
+use Rattle.playback.specs.Records.{recordCalled}
+use Rattle.playback.specs.Replay.{Replayed, halted, answerFrom, unlessRefused, endless, bytes, recordsReplayed, replayed}
 use Rattle.playback.specs.Statements.{RoomTellsAll}
-use Rattle.playback.proofs.Once.{recorded-count}
+use Rattle.playback.proofs.Once.{record-count}
 
 has-room : (rest n : ℕ) → 29 ≤ rest → n < 2 ^ 64 - 1 → hasRoom rest n ≡ true
 unfolding hasRoom
@@ -30,21 +30,21 @@ module _ (e : Seen) (last : ℕ) where
       (rest : ℕ) (rs : List Recorded) (s : State) (f : List ℕ) (n : ℕ)
       → 29 * length rs ≤ rest
       → n + length rs < 2 ^ 64
-      → obeyed e last (bytes rest) rs s f n ≡ obeyed e last endless rs s f n
-  unfolding obeyed
+      → recordsReplayed e last (bytes rest) rs s f n ≡ recordsReplayed e last endless rs s f n
+  unfolding recordsReplayed
   roomy rest [] s f n h l = refl
   roomy rest (r ∷ rs) s f n h l =
       rw (has-room rest n (omega arith) (omega arith))
-      (ap (goesOn s f n (r .kind) k) (roomy (rest - length (line n a)) rs (k .state) (k .frame) (n + 1) (omega (arith, short)) (omega arith)))
+      (ap (unlessRefused s f n (r .kind) k) (roomy (rest - length (line n a)) rs (k .state) (k .frame) (n + 1) (omega (arith, short)) (omega arith)))
     where
       k : Called
-      k = recorded e (r .kind) (r .value) s f
+      k = recordCalled e (r .kind) (r .value) s f
 
-      a : Answered
-      a = answered (r .kind) k
+      a : RecordAnswer
+      a = answerFrom (r .kind) k
 
       short : length (line n a) ≤ 29
-      short = omega (arith, line-length n a, decimal-length 20 n, count-digits (a .count) (recorded-count e (r .kind) (r .value) s f))
+      short = omega (arith, line-length n a, decimal-length 20 n, count-digits (a .count) (record-count e (r .kind) (r .value) s f))
 
 pub room-tells-all : RoomTellsAll
 unfolding replayed

@@ -14,32 +14,32 @@ use Rattle.calls.specs.State.{State}
 use Rattle.calls.specs.Calls.{Called}
 use Rattle.capture.specs.declared.Answer.{Answer}
 use Rattle.capture.specs.declared.Answer.the-variants.{Record, Short, WrongMark, WrongKind, WrongValue, End}
-use Rattle.capture.specs.Record.{answer, number}
-use Rattle.capture.specs.Capture.{Recorded, Contents, goesOn, contents}
+use Rattle.capture.specs.Record.{readFirst, number}
+use Rattle.capture.specs.Capture.{Recorded, Contents, readOn, contents}
 use Rattle.capture.proofs.Answers.{four-are-no-end}
-use Rattle.playback.specs.Records.{recorded}
-use Rattle.playback.specs.Replay.{Replayed, Room, bytes, roomFor, roomBehind, lineOf, obeyed, replayed}
-use Rattle.playback.specs.Transcript.{Transcribed, transcribed}
+use Rattle.playback.specs.Records.{recordCalled}
+use Rattle.playback.specs.Replay.{Replayed, Room, bytes, roomFor, roomBehind, recordLine, recordsReplayed, replayed}
+use Rattle.playback.specs.Transcript.{Told, transcribed}
 
 -- it came to its end
 abbrev Ended : ℕ → ℕ → ℕ → Replayed → Type 0
 Ended last n records r = r .ending .number ≡ 0 → r .ending .full ≡ false → (last ≡ 0) × (r .ending .place ≡ n + records)
 
 module _ (e : Seen) (last : ℕ) where
-  all-obeyed : (room : Room) (rs : List Recorded) (s : State) (f : List ℕ) (n : ℕ) → Ended last n (length rs) (obeyed e last room rs s f n)
-  unfolding obeyed
-  all-obeyed room [] s f n = λ z q. (z, omega arith)
-  all-obeyed room (r ∷ rs) s f n =
-      let k : Called = recorded e (r .kind) (r .value) s f in
+  all-replayed : (room : Room) (rs : List Recorded) (s : State) (f : List ℕ) (n : ℕ) → Ended last n (length rs) (recordsReplayed e last room rs s f n)
+  unfolding recordsReplayed
+  all-replayed room [] s f n = λ z q. (z, omega arith)
+  all-replayed room (r ∷ rs) s f n =
+      let k : Called = recordCalled e (r .kind) (r .value) s f in
       either-told (Ended last n (length (r ∷ rs))) (not (roomFor room n))
       (λ t z q. absurd (true≢false q))
       (λ t. either-told (Ended last n (length (r ∷ rs))) (eqb (k .number) 0)
-      (λ a z q. let on = all-obeyed (roomBehind room (lineOf n (r .kind) k)) rs (k .state) (k .frame) (n + 1) z q in (on .0, omega (arith, on .1)))
+      (λ a z q. let on = all-replayed (roomBehind room (recordLine n (r .kind) k)) rs (k .state) (k .frame) (n + 1) z q in (on .0, omega (arith, on .1)))
       (λ a z q. absurd (eqb-false (k .number) 0 a z)))
 
 -- what stops the reading with number 0 is the end, four bytes after each record
 goes-on-whole : (a : Answer) (on : Contents) (rest : ℕ) → (a ≡ End → ⊥) → (number (on .stop) ≡ 0 → rest ≡ 4 * length (on .records))
-    → number (goesOn a on .stop) ≡ 0 → 4 + rest ≡ 4 * length (goesOn a on .records)
+    → number (readOn a on .stop) ≡ 0 → 4 + rest ≡ 4 * length (readOn a on .records)
 goes-on-whole (Record kind value) on rest never h z = omega (arith, h z)
 goes-on-whole Short on rest never h z = absurd (omega arith)
 goes-on-whole WrongMark on rest never h z = absurd (omega arith)
@@ -48,13 +48,13 @@ goes-on-whole WrongValue on rest never h z = absurd (omega arith)
 goes-on-whole End on rest never h z = absurd (never refl)
 
 all-read : (c : List ℕ) → number (contents c .stop) ≡ 0 → length c ≡ 4 * length (contents c .records)
-unfolding contents answer
+unfolding contents readFirst
 all-read [] z = refl
 all-read (a ∷ []) z = absurd (omega arith)
 all-read (a ∷ b ∷ []) z = absurd (omega arith)
 all-read (a ∷ b ∷ d ∷ []) z = absurd (omega arith)
 all-read (a ∷ b ∷ d ∷ e ∷ c) z =
-    omega (arith, goes-on-whole (answer (a ∷ b ∷ d ∷ e ∷ c)) (contents c) (length c) (four-are-no-end a b d e c) (all-read c) z)
+    omega (arith, goes-on-whole (readFirst (a ∷ b ∷ d ∷ e ∷ c)) (contents c) (length c) (four-are-no-end a b d e c) (all-read c) z)
 
 pub went-through :
     (e : Seen) (room : Room) (c : List ℕ) (s : State) (f : List ℕ) (n : ℕ)
@@ -65,19 +65,19 @@ unfolding replayed
 went-through e room c s f n =
     either-told (λ (r : Replayed). r .ending .number ≡ 0 → r .ending .full ≡ false → r .ending .place ≡ n + length c / 4)
     (eqb (refusalOf (length f) (length (e .half)) (length (e .full))) 0)
-    (λ t z q. let all = all-obeyed e (number (contents c .stop)) room (contents c .records) s f n z q in omega (arith, all .1, all-read c (all .0)))
+    (λ t z q. let all = all-replayed e (number (contents c .stop)) room (contents c .records) s f n z q in omega (arith, all .1, all-read c (all .0)))
     (λ t z q. absurd (eqb-false (refusalOf (length f) (length (e .half)) (length (e .full))) 0 t z))
 
 -- and so has a transcript
 pub told-through :
-    (e : Seen) (c : List ℕ) (s : State) (f : List ℕ) (n : ℕ) (text : List ℕ) (x : Transcribed)
+    (e : Seen) (c : List ℕ) (s : State) (f : List ℕ) (n : ℕ) (text : List ℕ) (x : Told)
     → x ≡ transcribed e c s f n text
     → x .ending .number ≡ 0
     → x .ending .full ≡ false
     → x .ending .place ≡ n + length c / 4
 unfolding transcribed
 told-through e c s f n text x is z q =
-    ap (λ (y : Transcribed). y .ending .place) is
+    ap (λ (y : Told). y .ending .place) is
     ∙ went-through e (bytes (length text)) c s f n
-    (sym (ap (λ (y : Transcribed). y .ending .number) is) ∙ z)
-    (sym (ap (λ (y : Transcribed). y .ending .full) is) ∙ q)
+    (sym (ap (λ (y : Told). y .ending .number) is) ∙ z)
+    (sym (ap (λ (y : Told). y .ending .full) is) ∙ q)

@@ -1,48 +1,52 @@
--- Document 01, "Captures": what a record's kind and value ask of a panel.
-use Prim.Native.Nat.{ℕ, zero, suc, _+_}
-use mathlib.Core.List.{List}
+-- Document 01, "Captures": what a record asks of a panel, and what that leaves.
+use Prim.Native.Nat.{ℕ, _+_}
+use mathlib.Core.List.{List, [], _∷_, map}
 use lib.Dec.{eqb}
 use Rattle.base.specs.Choice.{if_then_else_}
-use Rattle.base.specs.Bits as bits
 use Rattle.events.specs.declared.Event.{Event}
 use Rattle.events.specs.declared.Event.the-variants.{Transfer, Bit, SelectLow, Reset}
 use Rattle.events.specs.declared.Transfer.the-variants.{Instruct, Write, Status, Read}
+use Rattle.links.specs.Items.{highestFirst}
 use Rattle.picture.specs.Picture.{Seen}
+use Rattle.capture.specs.Kinds.{Kind, instructionWrite, dataWrite, statusRead, dataRead, eightBits, selectLow, reset, kindOf}
 use Rattle.calls.specs.State.{State}
 use Rattle.calls.specs.Calls.{Called, refused, called}
 
--- no bit: nothing changes, and nothing is counted
-abbrev pub unheard : State → List ℕ → Called
-unheard s frame = record { state = s; number = 0; reply = 0; count = 0; frame = frame }
+-- the events of each kind with its value; serial bits highest first
+abbrev pub asks : Kind → ℕ → List Event
+asks instructionWrite value = Transfer (Instruct value) ∷ []
+asks dataWrite value = Transfer (Write value) ∷ []
+asks statusRead value = Transfer Status ∷ []
+asks dataRead value = Transfer Read ∷ []
+asks eightBits value = map Bit (highestFirst value)
+asks selectLow value = SelectLow ∷ []
+asks reset value = Reset (record { parallel = eqb value 1 }) ∷ []
 
--- with the count of a bit before
-abbrev pub counted : ℕ → Called → Called
-counted n k = record { state = k .state; number = k .number; reply = k .reply; count = n + k .count; frame = k .frame }
+-- a record's events
+abbrev pub eventsOf : ℕ → ℕ → List Event
+eventsOf kind value = asks (kindOf kind) value
 
--- the lowest bits of a value, as many as are left, highest first; their counts are summed
-unfoldable pub heard : Seen → ℕ → ℕ → State → List ℕ → Called
-heard e value zero s frame = unheard s frame
-heard e value (suc left) s frame =
-    counted (called e s frame (Bit (bits.bit left value)) .count)
-    (heard e value left (called e s frame (Bit (bits.bit left value)) .state) (called e s frame (Bit (bits.bit left value)) .frame))
+-- with the count of a call before
+abbrev pub plusCount : ℕ → Called → Called
+plusCount n k = record { state = k .state; number = k .number; reply = k .reply; count = n + k .count; frame = k .frame }
 
--- kind 4: refused as its first bit is, and then no bit is heard; else all eight are
-unfoldable pub eightBits : Seen → ℕ → State → List ℕ → Called
-eightBits e value s frame =
-    if eqb (called e s frame (Bit (bits.bit 7 value)) .number) 0 then heard e value 8 s frame
-    else refused s frame (called e s frame (Bit (bits.bit 7 value)) .number)
+-- called in turn, behind a call that replied so: number 0, the last reply, the sum of the counts
+unfoldable pub calledOn : Seen → ℕ → State → List ℕ → List Event → Called
+calledOn e reply s frame [] = record { state = s; number = 0; reply = reply; count = 0; frame = frame }
+calledOn e reply s frame (event ∷ events) =
+    let k : Called = called e s frame event in
+    plusCount (k .count) (calledOn e (k .reply) (k .state) (k .frame) events)
 
--- kinds, as events: 0 instruction write, 1 data write, 2 status read, 3 data read, 5 chip select low, 6 reset
-unfoldable pub eventOf : ℕ → ℕ → Event
-eventOf kind value =
-    if eqb kind 0 then Transfer (Instruct value)
-    else if eqb kind 1 then Transfer (Write value)
-    else if eqb kind 2 then Transfer Status
-    else if eqb kind 3 then Transfer Read
-    else if eqb kind 5 then SelectLow
-    else Reset (record { parallel = eqb value 1 })
+abbrev pub firstNumber : Seen → State → List ℕ → List Event → ℕ
+firstNumber e s frame [] = 0
+firstNumber e s frame (event ∷ events) = called e s frame event .number
 
--- a record: 4 is eight serial bits, any other one event
-unfoldable pub recorded : Seen → ℕ → ℕ → State → List ℕ → Called
-recorded e kind value s frame =
-    if eqb kind 4 then eightBits e value s frame else called e s frame (eventOf kind value)
+-- refused as the first of them is, and then none is heard; else called in turn
+unfoldable pub calledInTurn : Seen → State → List ℕ → List Event → Called
+calledInTurn e s frame events =
+    if eqb (firstNumber e s frame events) 0 then calledOn e 0 s frame events
+    else refused s frame (firstNumber e s frame events)
+
+-- a record
+unfoldable pub recordCalled : Seen → ℕ → ℕ → State → List ℕ → Called
+recordCalled e kind value s frame = calledInTurn e s frame (eventsOf kind value)

@@ -8,13 +8,11 @@ use Rattle.base.specs.Choice.{if_then_else_}
 use Rattle.picture.specs.Picture.{Seen}
 use Rattle.picture.specs.Refusals.{refusalOf}
 use Rattle.calls.specs.State.{State}
-use Rattle.panel.specs.Handed.{stateOf}
 use Rattle.calls.specs.Calls.{Called}
 use Rattle.capture.specs.Record.{number}
 use Rattle.capture.specs.Capture.{Recorded, Contents, contents}
-use Rattle.printed.specs.Text.{Answered, answer, line, hasRoom}
-use Rattle.playback.specs.declared.Stop.{Stop}
-use Rattle.playback.specs.Records.{recorded}
+use Rattle.printed.specs.Text.{RecordAnswer, recordAnswer, line, hasRoom}
+use Rattle.playback.specs.Records.{recordCalled}
 
 -- where a replay stands when it stops: the state, the frame, the records accepted, and the refusal number, 0 at the end; or else
 -- that the record at this place was not carried out, as its line might have had no room
@@ -30,7 +28,7 @@ endingAt s frame place number = record { state = s; frame = frame; place = place
 
 -- a replay: the answers of its accepted records, and where it stops
 pub record Replayed : Type 0 where
-  pub answers : List Answered
+  pub answers : List RecordAnswer
   pub ending : Ending
 
 abbrev pub halted : State → List ℕ → ℕ → ℕ → Replayed
@@ -40,10 +38,10 @@ halted s frame place number = record { answers = []; ending = endingAt s frame p
 abbrev pub unroomed : State → List ℕ → ℕ → Replayed
 unroomed s frame place = record { answers = []; ending = record { state = s; frame = frame; place = place; number = 0; full = true } }
 
-abbrev pub answered : ℕ → Called → Answered
-answered kind k = answer kind (k .reply) (k .count)
+abbrev pub answerFrom : ℕ → Called → RecordAnswer
+answerFrom kind k = recordAnswer kind (k .reply) (k .count)
 
-abbrev pub afterAnswer : Answered → Replayed → Replayed
+abbrev pub afterAnswer : RecordAnswer → Replayed → Replayed
 afterAnswer a on = record { answers = a ∷ on .answers; ending = on .ending }
 
 -- what a replay has for its lines: a rest of so many bytes; or it writes none, and goes on without end
@@ -64,55 +62,41 @@ roomBehind endless text = endless
 roomBehind (bytes rest) text = bytes (rest - length text)
 
 -- the line of an accepted record
-abbrev pub lineOf : ℕ → ℕ → Called → List ℕ
-lineOf place kind k = line place (answered kind k)
+abbrev pub recordLine : ℕ → ℕ → Called → List ℕ
+recordLine place kind k = line place (answerFrom kind k)
 
 -- an accepted record answers, and the replay goes on; a refused one has no effect
-abbrev pub goesOn : State → List ℕ → ℕ → ℕ → Called → Replayed → Replayed
-goesOn s frame place kind k on =
-    if eqb (k .number) 0 then afterAnswer (answered kind k) on
+abbrev pub unlessRefused : State → List ℕ → ℕ → ℕ → Called → Replayed → Replayed
+unlessRefused s frame place kind k on =
+    if eqb (k .number) 0 then afterAnswer (answerFrom kind k) on
     else halted s frame place (k .number)
 
 -- one record after another, each on what the ones before it left; behind the last, what stands there in the capture
-unfoldable pub obeyed : Seen → ℕ → Room → List Recorded → State → List ℕ → ℕ → Replayed
-obeyed e last room [] s frame place = halted s frame place last
-obeyed e last room (r ∷ rs) s frame place =
-    let k : Called = recorded e (r .kind) (r .value) s frame in
+unfoldable pub recordsReplayed : Seen → ℕ → Room → List Recorded → State → List ℕ → ℕ → Replayed
+recordsReplayed e last room [] s frame place = halted s frame place last
+recordsReplayed e last room (r ∷ rs) s frame place =
+    let k : Called = recordCalled e (r .kind) (r .value) s frame in
     if not (roomFor room place) then unroomed s frame place
-    else goesOn s frame place (r .kind) k (obeyed e last (roomBehind room (lineOf place (r .kind) k)) rs (k .state) (k .frame) (place + 1))
+    else unlessRefused s frame place (r .kind) k (recordsReplayed e last (roomBehind room (recordLine place (r .kind) k)) rs (k .state) (k .frame) (place + 1))
 
-abbrev pub obeyedAll : Seen → Room → Contents → State → List ℕ → ℕ → Replayed
-obeyedAll e room c s frame place = obeyed e (number (c .stop)) room (c .records) s frame place
+abbrev pub contentsReplayed : Seen → Room → Contents → State → List ℕ → ℕ → Replayed
+contentsReplayed e room c s frame place = recordsReplayed e (number (c .stop)) room (c .records) s frame place
 
 -- a replay from a number of accepted records on: refusals 1, 2, 3 before anything is read
 unfoldable pub replayed : Seen → Room → List ℕ → State → List ℕ → ℕ → Replayed
 replayed e room capture s frame place =
-    if eqb (refusalOf (length frame) (length (e .half)) (length (e .full))) 0 then obeyedAll e room (contents capture) s frame place
+    if eqb (refusalOf (length frame) (length (e .half)) (length (e .full))) 0 then contentsReplayed e room (contents capture) s frame place
     else halted s frame place (refusalOf (length frame) (length (e .half)) (length (e .full)))
 
 -- the last of some answers; where there are none, the one given
-unfoldable pub lastOr : Answered → List Answered → Answered
+unfoldable pub lastOr : RecordAnswer → List RecordAnswer → RecordAnswer
 lastOr a [] = a
 lastOr a (b ∷ more) = lastOr b more
 
 -- no record was accepted: reply 0, count 0
-abbrev pub unanswered : Answered
-unanswered = answer 0 0 0
+abbrev pub unanswered : RecordAnswer
+unanswered = recordAnswer 0 0 0
 
 -- what is written of a text: all of it, or nothing where lines are not told
 abbrev pub toldBy : Bool → List ℕ → List ℕ
 toldBy telling text = if telling then text else []
-
--- what replay answers: where it stops, and the reply and count of the last accepted record
-pub record Stopped : Type 0 where
-  pub ending : Ending
-  pub reply : ℕ
-  pub count : ℕ
-
-abbrev pub stopped : Replayed → Stopped
-stopped r = record { ending = r .ending; reply = lastOr unanswered (r .answers) .reply; count = lastOr unanswered (r .answers) .count }
-
--- what a replay by value leaves
-abbrev pub stopsAt : Stop → List ℕ → Stopped
-stopsAt r frame =
-    record { ending = endingAt (stateOf (r .panel)) frame (r .place) (r .number); reply = r .reply; count = r .count }

@@ -1,27 +1,27 @@
 -- Document 01, "Captures": what holds of records, replays and their lines.
 -- Each statement is proved in proofs/, under its own name in small letters (`EightBitsCountOnce` as `eight-bits-count-once`).
-use Prim.Native.Nat.{ℕ, zero, suc, _+_, _*_, _%_, _^_, _≤_, _<_}
+use Prim.Native.Nat.{ℕ, _+_, _*_, _%_, _^_, _≤_, _<_}
 use mathlib.Core.List.{List, [], _∷_, _++_}
 use mathlib.Core.Path.{_≡_}
 use lib.Dec.{eqb}
 use lib.ListN.{length, replicate}
 use Rattle.base.specs.Choice.{if_then_else_}
-use Rattle.base.specs.Bits as bits
 use Rattle.picture.specs.Picture.{Seen}
 use Rattle.calls.specs.State.{State}
-use Rattle.events.specs.declared.Event.the-variants.{Bit}
+use Rattle.events.specs.declared.Event.{Event}
 use Rattle.calls.specs.Calls.{Called, called}
 use Rattle.capture.specs.Capture.{contents}
-use Rattle.playback.specs.Records.{eightBits}
-use Rattle.printed.specs.Text.{Answered}
+use Rattle.capture.specs.Kinds.{eightBits}
+use Rattle.playback.specs.Records.{asks, calledInTurn}
+use Rattle.printed.specs.Text.{RecordAnswer}
 use Rattle.playback.specs.Replay.{Replayed, endless, bytes, replayed}
 
--- the counts of a value's lowest bits, as many as are left, highest first
-unfoldable pub bitCounts : Seen → ℕ → ℕ → State → List ℕ → List ℕ
-bitCounts e value zero s frame = []
-bitCounts e value (suc left) s frame =
-    let k : Called = called e s frame (Bit (bits.bit left value)) in
-    k .count ∷ bitCounts e value left (k .state) (k .frame)
+-- the counts of calls in turn
+unfoldable pub countsInTurn : Seen → State → List ℕ → List Event → List ℕ
+countsInTurn e s frame [] = []
+countsInTurn e s frame (event ∷ events) =
+    let k : Called = called e s frame event in
+    k .count ∷ countsInTurn e (k .state) (k .frame) events
 
 -- of some counts all are 0 but this one, which is at most 1,024
 pub record OneCounts (counts : List ℕ) (count : ℕ) : Type 0 where
@@ -33,10 +33,11 @@ pub record OneCounts (counts : List ℕ) (count : ℕ) : Type 0 where
 -- 1. Kind 4's eight bits count once: at most one of them completes a byte, and only that one names bytes.
 abbrev pub EightBitsCountOnce : Type 0
 EightBitsCountOnce =
-    (e : Seen) (value : ℕ) (s : State) (frame : List ℕ) → OneCounts (bitCounts e value 8 s frame) (eightBits e value s frame .count)
+    (e : Seen) (value : ℕ) (s : State) (frame : List ℕ)
+    → OneCounts (countsInTurn e s frame (asks eightBits value)) (calledInTurn e s frame (asks eightBits value) .count)
 
 -- answers, then those of a replay
-abbrev pub afterAnswers : List Answered → Replayed → Replayed
+abbrev pub afterAnswers : List RecordAnswer → Replayed → Replayed
 afterAnswers before r = record { answers = before ++ r .answers; ending = r .ending }
 
 -- a replay that came to the end of its capture goes on with more of it, from where it stands; one that was refused stays

@@ -8,28 +8,10 @@ mod telling;
 pub use replaying::replay;
 pub use replaying::transcribe;
 
-// Where a replay stopped: the panel then, how many records were accepted, and the refusal number, 0 at the end of the capture.
-// Beside it the reply and the count of the last record accepted, 0 and 0 where there was none.
+// Where a replay stopped: the panel then, how many records were accepted, and the refusal number, 0 at the end of the capture;
+// `full` where it stopped only since one more line might have had no room. Beside it the reply and the count of the last record
+// accepted, 0 and 0 where there was none, and how many bytes of text were written.
 pub struct Stop {
-    pub panel: Panel,
-    pub place: usize,
-    pub number: u8,
-    pub reply: u8,
-    pub count: usize,
-}
-
-// Where a replay that writes lines stopped, how many bytes of text it left, and whether it stopped only since one more line might
-// have had no room.
-pub struct Told {
-    pub panel: Panel,
-    pub place: usize,
-    pub number: u8,
-    pub filled: usize,
-    pub full: bool,
-}
-
-// Where the loop stopped, and all that is told of it.
-pub(crate) struct Run {
     pub panel: Panel,
     pub place: usize,
     pub number: u8,

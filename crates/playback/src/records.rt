@@ -4,11 +4,13 @@ use events::Pin;
 use events::Transfer;
 use panel::Outcome;
 use panel::Panel;
+ghost use mathlib.Core.List.{[], _∷_};
 ghost use mathlib.Core.Path.{_≡_};
 ghost use Rattle.picture.specs.Picture.{seen};
 ghost use Rattle.calls.specs.State.{Valid};
 ghost use Rattle.panel.specs.Handed.{stateOf, handed};
-ghost use Rattle.playback.specs.Records.{eightBits, eventOf, recorded};
+ghost use Rattle.playback.specs.Records.{asks, eventsOf, calledInTurn, recordCalled};
+ghost use Rattle.capture.specs.Kinds.{eightBits};
 
 // Eight bits of the serial link, highest first. On the other link the first is refused, and none is heard.
 fn eight_bits(
@@ -20,7 +22,7 @@ fn eight_bits(
     phase: bool,
 ) -> Outcome
     requires { ⌜ Valid (stateOf panel) ⌝ }
-    ensures { λ r. ⌜ handed r (now (frame .exit)) ≡ eightBits (seen half full phase) value (stateOf panel) (now (frame .entry)) ⌝ }
+    ensures { λ r. ⌜ handed r (now (frame .exit)) ≡ calledInTurn (seen half full phase) (stateOf panel) (now (frame .entry)) (asks eightBits value) ⌝ }
     ensures valid { λ r. ⌜ Valid (stateOf (r .panel)) ⌝ }
 {
     let first = panel.bit((value >> 7) % 2 == 1, frame, half, full, phase);
@@ -28,25 +30,28 @@ fn eight_bits(
         return first;
     }
     let mut next = first.panel;
+    let mut reply = first.reply;
     let mut count = first.count;
     let mut left: u8 = 7;
     while left > 0 {
         left -= 1;
         let outcome = next.bit((value >> left) % 2 == 1, frame, half, full, phase);
         next = outcome.panel;
+        reply = outcome.reply;
         count += outcome.count;
     }
     Outcome {
         panel: next,
         number: 0,
-        reply: 0,
+        reply,
         count,
     }
 }
 
-// What a record of any other kind than 4 is.
+// The one event of a record of any other kind than 4.
 fn event_of(kind: u8, value: u8) -> Event
-    ensures { λ r. ⌜ r ≡ eventOf kind value ⌝ }
+    requires { ⌜ (kind ≡ 4 → ⊥) ⌝ }
+    ensures { λ r. ⌜ r ∷ [] ≡ eventsOf kind value ⌝ }
 {
     match kind {
         0 => Event::Transfer(Transfer::Instruct(value)),
@@ -71,7 +76,7 @@ pub(crate) fn obey(
     phase: bool,
 ) -> Outcome
     requires { ⌜ Valid (stateOf panel) ⌝ }
-    ensures { λ r. ⌜ handed r (now (frame .exit)) ≡ recorded (seen half full phase) kind value (stateOf panel) (now (frame .entry)) ⌝ }
+    ensures { λ r. ⌜ handed r (now (frame .exit)) ≡ recordCalled (seen half full phase) kind value (stateOf panel) (now (frame .entry)) ⌝ }
     ensures valid { λ r. ⌜ Valid (stateOf (r .panel)) ⌝ }
 {
     if kind == 4 {

@@ -1,7 +1,5 @@
 // The replay of a capture, with or without its lines: one loop.
-use crate::Run;
 use crate::Stop;
-use crate::Told;
 use crate::records::obey;
 use crate::telling::room_for;
 use crate::telling::tell;
@@ -9,14 +7,15 @@ use capture::Answer;
 use panel::Panel;
 use picture::refusals::refusal;
 ghost use mathlib.Core.Bool.{false};
+ghost use mathlib.Core.List.{[]};
 ghost use mathlib.Core.Path.{_≡_};
 ghost use lib.ListN.{length};
 ghost use Rattle.picture.specs.Picture.{seen};
 ghost use Rattle.calls.specs.State.{Valid};
 ghost use Rattle.panel.specs.Handed.{stateOf};
 ghost use Rattle.printed.specs.Text.{Counts};
-ghost use Rattle.playback.specs.Replay.{endless, roomOf, replayed, stopped, stopsAt};
-ghost use Rattle.playback.specs.Transcript.{transcribed, tells, ran, runs};
+ghost use Rattle.playback.specs.Replay.{roomOf, replayed};
+ghost use Rattle.playback.specs.Transcript.{told, replayedSilently, transcribed, leftBy};
 
 // Where the loop stops: after how many records, with which number, or since one more line might have no room.
 struct Halt {
@@ -36,16 +35,16 @@ fn run(
     phase: bool,
     text: &mut [u8],
     telling: bool,
-) -> Run
+) -> Stop
     requires { ⌜ Valid (stateOf panel) ⌝ }
     requires { ⌜ (telling ≡ false → place ≡ 0) ⌝ }
-    ensures { λ r. ⌜ runs r (now (frame .exit)) (now (text .exit)) ≡ ran telling place (now (text .entry)) (replayed (seen half full phase) (roomOf telling (length (now (text .entry)))) (now (capture .entry)) (stateOf panel) (now (frame .entry)) place) ⌝ }
+    ensures { λ r. ⌜ leftBy r (now (frame .exit)) (now (text .exit)) ≡ told telling place (now (text .entry)) (replayed (seen half full phase) (roomOf telling (length (now (text .entry)))) (now (capture .entry)) (stateOf panel) (now (frame .entry)) place) ⌝ }
     ensures valid { λ r. ⌜ Valid (stateOf (r .panel)) ⌝ }
     ensures counts { λ r. ⌜ Counts (r .filled) (now (text .exit)) ⌝ }
 {
     let number = refusal(frame.len(), half.len(), full.len());
     if number != 0 {
-        return Run {
+        return Stop {
             panel,
             place,
             number,
@@ -94,7 +93,7 @@ fn run(
         reached += 1;
         at = step.next;
     };
-    Run {
+    Stop {
         panel: next,
         place: halt.place,
         number: halt.number,
@@ -115,11 +114,11 @@ pub fn replay(
     phase: bool,
 ) -> Stop
     requires { ⌜ Valid (stateOf panel) ⌝ }
-    ensures { λ r. ⌜ stopsAt r (now (frame .exit)) ≡ stopped (replayed (seen half full phase) endless (now (capture .entry)) (stateOf panel) (now (frame .entry)) 0) ⌝ }
+    ensures { λ r. ⌜ leftBy r (now (frame .exit)) [] ≡ replayedSilently (seen half full phase) (now (capture .entry)) (stateOf panel) (now (frame .entry)) ⌝ }
     ensures valid { λ r. ⌜ Valid (stateOf (r .panel)) ⌝ }
 {
     let mut none = [0u8; 0];
-    let stop = run(
+    run(
         panel,
         0,
         capture,
@@ -129,15 +128,7 @@ pub fn replay(
         phase,
         &mut none,
         false,
-    );
-    let next = stop.panel;
-    Stop {
-        panel: next,
-        place: stop.place,
-        number: stop.number,
-        reply: stop.reply,
-        count: stop.count,
-    }
+    )
 }
 
 // Replays a capture as `replay` does, from a number of accepted records on, and writes their lines from the beginning of the
@@ -152,19 +143,11 @@ pub fn transcribe(
     full: &[u8],
     phase: bool,
     text: &mut [u8],
-) -> Told
+) -> Stop
     requires { ⌜ Valid (stateOf panel) ⌝ }
-    ensures { λ r. ⌜ tells r (now (frame .exit)) (now (text .exit)) ≡ transcribed (seen half full phase) (now (capture .entry)) (stateOf panel) (now (frame .entry)) place (now (text .entry)) ⌝ }
+    ensures { λ r. ⌜ leftBy r (now (frame .exit)) (now (text .exit)) ≡ transcribed (seen half full phase) (now (capture .entry)) (stateOf panel) (now (frame .entry)) place (now (text .entry)) ⌝ }
     ensures valid { λ r. ⌜ Valid (stateOf (r .panel)) ⌝ }
     ensures counts { λ r. ⌜ Counts (r .filled) (now (text .exit)) ⌝ }
 {
-    let stop = run(panel, place, capture, frame, half, full, phase, text, true);
-    let next = stop.panel;
-    Told {
-        panel: next,
-        place: stop.place,
-        number: stop.number,
-        filled: stop.filled,
-        full: stop.full,
-    }
+    run(panel, place, capture, frame, half, full, phase, text, true)
 }

@@ -4,7 +4,7 @@ use printed::put_line;
 ghost use mathlib.Core.Path.{_≡_};
 ghost use Prim.Native.Nat.{_+_, _≤_};
 ghost use lib.ListN.{length};
-ghost use Rattle.printed.specs.Text.{answer, line, Put};
+ghost use Rattle.printed.specs.Text.{recordAnswer, line, Put};
 ghost use Rattle.playback.specs.Replay.{roomOf, roomFor, toldBy};
 
 // Whether one more record may be carried out: always where no lines are told.
@@ -27,8 +27,8 @@ pub(crate) fn tell(
     reply: u8,
     count: usize,
 ) -> usize
-    requires { ⌜ filled + length (toldBy telling (line place (answer kind reply count))) ≤ length (now text) ⌝ }
-    ensures { λ r. ⌜ Put (now (text .entry)) filled (toldBy telling (line place (answer kind reply count))) (now (text .exit)) r ⌝ }
+    requires { ⌜ filled + length (toldBy telling (line place (recordAnswer kind reply count))) ≤ length (now text) ⌝ }
+    ensures { λ r. ⌜ Put (now (text .entry)) filled (toldBy telling (line place (recordAnswer kind reply count))) (now (text .exit)) r ⌝ }
 {
     if telling {
         return put_line(text, filled, place, kind, reply, count);

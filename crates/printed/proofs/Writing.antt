@@ -12,7 +12,7 @@ use lib.Seq.{sets, length-sets, length-take-le}
 use Rattle.base.specs.Choice.{if_then_else_}
 use Rattle.base.proofs.Choice.{either}
 use Rattle.base.proofs.Lists.{sets-append}
-use Rattle.printed.specs.Text.{Answered, digit, decimal, shown, oneByte, fourBytes, middle, line, endLine, stopLine, lastLine, Put, begunWith, leaves, Counts}
+use Rattle.printed.specs.Text.{RecordAnswer, digit, decimal, shown, oneByte, fourBytes, middle, line, endLine, stopLine, lastLine, Put, begunWith, begunAs, Counts}
 
 module _ {l m : List ℕ} {i j : ℕ} {a : List ℕ} (p : Put l i a m j) where
   pub put-length : length m ≡ length l
@@ -101,7 +101,7 @@ put-large {l} {m} {i} {j} most n h k p = rw (decimal-large most n h k) (put-then
 pub large-room : (most n : ℕ) → (most ≡ 0 → ⊥) → 10 ≤ n → length (decimal most n) ≡ length (decimal (most - 1) (n / 10)) + 1
 large-room most n h k = ap length (decimal-large most n h k) ∙ length-append (decimal (most - 1) (n / 10)) ((0x30 + n % 10) ∷ [])
 
-pub line-length : (place : ℕ) (a : Answered) → length (line place a) ≡ length (decimal 20 place) + 4 + length (decimal 20 (a .count)) + 1
+pub line-length : (place : ℕ) (a : RecordAnswer) → length (line place a) ≡ length (decimal 20 place) + 4 + length (decimal 20 (a .count)) + 1
 unfolding line
 line-length place a =
     length-append (decimal 20 place ++ middle (a .kind) (a .reply) ++ decimal 20 (a .count)) (0x0A ∷ [])
@@ -137,7 +137,7 @@ last-put :
     {l m : List ℕ} {j : ℕ} (place number : ℕ)
     → length l ≡ 48
     → Put l 0 (lastLine place number) m j
-    → (leaves j m ≡ begunWith l (lastLine place number)) × Counts j m
+    → (begunAs j m ≡ begunWith l (lastLine place number)) × Counts j m
 last-put place number h p = (rw (p .stands, p .follows, zero-add), put-counts p (rw h (last-length place number)))
 
 pub last-end :
@@ -145,7 +145,7 @@ pub last-end :
     → number ≡ 0
     → length l ≡ 48
     → Put l 0 (endLine place) m j
-    → (leaves j m ≡ begunWith l (lastLine place number)) × Counts j m
+    → (begunAs j m ≡ begunWith l (lastLine place number)) × Counts j m
 last-end place number z h p = last-put place number h (rw (eq-eqb number 0 z) p)
 
 pub last-stop :
@@ -153,5 +153,5 @@ pub last-stop :
     → (number ≡ 0 → ⊥)
     → length l ≡ 48
     → Put l 0 (stopLine place number) m j
-    → (leaves j m ≡ begunWith l (lastLine place number)) × Counts j m
+    → (begunAs j m ≡ begunWith l (lastLine place number)) × Counts j m
 last-stop place number z h p = last-put place number h (rw (ne-eqb number 0 z) p)

@@ -1,21 +1,22 @@
 -- Document 01, "Captures": what `replay` prints, as a function of the answers. Characters are ASCII bytes.
 use Prim.Native.Nat.{ℕ, zero, suc, _+_, _-_, _/_, _%_, _^_, _≤_}
-use mathlib.Core.Bool.{Bool, _&&_, _||_}
+use mathlib.Core.Bool.{Bool, _&&_}
 use mathlib.Core.Path.{_≡_}
 use mathlib.Core.List.{List, [], _∷_, _++_}
 use lib.Dec.{eqb, leb, ltb}
 use lib.ListN.{length, take}
 use lib.Seq.{sets}
 use Rattle.base.specs.Choice.{if_then_else_}
+use Rattle.capture.specs.Kinds.{kindOf, reads}
 
 -- what an accepted record answers
-pub record Answered : Type 0 where
+pub record RecordAnswer : Type 0 where
   pub kind : ℕ
   pub reply : ℕ
   pub count : ℕ
 
-abbrev pub answer : ℕ → ℕ → ℕ → Answered
-answer kind reply count = record { kind = kind; reply = reply; count = count }
+abbrev pub recordAnswer : ℕ → ℕ → ℕ → RecordAnswer
+recordAnswer kind reply count = record { kind = kind; reply = reply; count = count }
 
 -- a hex digit, in capitals
 abbrev pub digit : ℕ → ℕ
@@ -28,7 +29,7 @@ decimal (suc most) n = (if ltb n 10 then [] else decimal most (n / 10)) ++ ((0x3
 
 -- a digit of a read's reply; a dash for other kinds
 abbrev pub shown : ℕ → ℕ → ℕ
-shown kind character = if eqb kind 2 || eqb kind 3 then character else 0x2D
+shown kind character = if reads (kindOf kind) then character else 0x2D
 
 abbrev pub oneByte : ℕ → List ℕ
 oneByte a = a ∷ []
@@ -41,7 +42,7 @@ abbrev pub middle : ℕ → ℕ → List ℕ
 middle kind reply = fourBytes 0x20 (shown kind (digit (reply / 16))) (shown kind (digit (reply % 16))) 0x20
 
 -- per accepted record its number, reply and count; a number of 64 bits has at most 20 digits
-unfoldable pub line : ℕ → Answered → List ℕ
+unfoldable pub line : ℕ → RecordAnswer → List ℕ
 line place a = decimal 20 place ++ middle (a .kind) (a .reply) ++ decimal 20 (a .count) ++ oneByte 0x0A
 
 -- the longest line: the digits of its number, two spaces, two characters, a count of at most 1,024, a line feed
@@ -53,7 +54,7 @@ unfoldable pub hasRoom : ℕ → ℕ → Bool
 hasRoom rest place = leb (longestLine place) rest && ltb place (2 ^ 64 - 1)
 
 -- the lines of records numbered from a place on
-unfoldable pub lines : ℕ → List Answered → List ℕ
+unfoldable pub lines : ℕ → List RecordAnswer → List ℕ
 lines place [] = []
 lines place (a ∷ more) = line place a ++ lines (place + 1) more
 
@@ -81,8 +82,8 @@ pub record Begun : Type 0 where
 abbrev pub begunWith : List ℕ → List ℕ → Begun
 begunWith buffer text = record { buffer = sets buffer 0 text; filled = length text }
 
-abbrev pub leaves : ℕ → List ℕ → Begun
-leaves filled buffer = record { buffer = buffer; filled = filled }
+abbrev pub begunAs : ℕ → List ℕ → Begun
+begunAs filled buffer = record { buffer = buffer; filled = filled }
 
 -- a count of bytes at the beginning of a buffer
 abbrev pub Counts : ℕ → List ℕ → Type 0

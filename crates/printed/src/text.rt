@@ -2,7 +2,7 @@
 ghost use mathlib.Core.Path.{_≡_};
 ghost use Prim.Native.Nat.{_+_, _≤_, _<_};
 ghost use lib.ListN.{length};
-ghost use Rattle.printed.specs.Text.{answer, digit as hexDigit, decimal, shown as shownAs, oneByte, fourBytes, middle, line, endLine, stopLine, lastLine, Put, begunWith, leaves, Counts, hasRoom};
+ghost use Rattle.printed.specs.Text.{recordAnswer, digit as hexDigit, decimal, shown as shownAs, oneByte, fourBytes, middle, line, endLine, stopLine, lastLine, Put, begunWith, begunAs, Counts, hasRoom};
 
 // A hex digit, in capitals.
 fn digit(d: u8) -> u8
@@ -16,13 +16,10 @@ fn digit(d: u8) -> u8
 fn shown(kind: u8, character: u8) -> u8
     ensures { λ r. ⌜ r ≡ shownAs kind character ⌝ }
 {
-    if kind == 2 {
-        return character;
+    match kind {
+        2 | 3 => character,
+        _ => b'-',
     }
-    if kind == 3 {
-        return character;
-    }
-    b'-'
 }
 
 // How many digits a number has in decimal, with at most so many.
@@ -87,8 +84,8 @@ fn put_four(out: &mut [u8], at: usize, a: u8, b: u8, c: u8, d: u8) -> usize
 
 // The line of an accepted record.
 pub fn put_line(out: &mut [u8], at: usize, place: usize, kind: u8, reply: u8, count: usize) -> usize
-    requires { ⌜ at + length (line place (answer kind reply count)) ≤ length (now out) ⌝ }
-    ensures { λ r. ⌜ Put (now (out .entry)) at (line place (answer kind reply count)) (now (out .exit)) r ⌝ }
+    requires { ⌜ at + length (line place (recordAnswer kind reply count)) ≤ length (now out) ⌝ }
+    ensures { λ r. ⌜ Put (now (out .entry)) at (line place (recordAnswer kind reply count)) (now (out .exit)) r ⌝ }
 {
     let first = put_decimal(out, at, 20, place);
     let second = put_reply(out, first, kind, reply);
@@ -129,7 +126,7 @@ fn put_stop(out: &mut [u8], place: usize, number: u8) -> usize
 
 // The last line, by the number with which a replay stopped; answers how long it is. `counts` serves whoever lends it on.
 pub fn put_last(out: &mut [u8; 48], place: usize, number: u8) -> usize
-    ensures { λ r. ⌜ leaves r (now (out .exit)) ≡ begunWith (now (out .entry)) (lastLine place number) ⌝ }
+    ensures { λ r. ⌜ begunAs r (now (out .exit)) ≡ begunWith (now (out .entry)) (lastLine place number) ⌝ }
     ensures counts { λ r. ⌜ Counts r (now (out .exit)) ⌝ }
 {
     if number == 0 {

@@ -6,7 +6,7 @@ use libc::STDERR_FILENO;
 use libc::STDIN_FILENO;
 use libc::STDOUT_FILENO;
 use panel::Panel;
-use playback::Told;
+use playback::Stop;
 ghost use Prim.Native.Nat.{_+_, _/_, _≤_};
 ghost use mathlib.Core.Bool.{false};
 ghost use mathlib.Core.Path.{_≡_};
@@ -23,7 +23,7 @@ struct Filled {
 
 // How far the replay came with a part, how many bytes the part had, and whether reading it or writing its lines failed.
 struct Came {
-    told: Told,
+    stop: Stop,
     bytes: usize,
     unread: bool,
     unwritten: bool,
@@ -86,8 +86,8 @@ fn print(text: &[u8]) -> bool {
 // bytes each, fit into 65,536 bytes.
 fn part(panel: Panel, place: usize, frame: &mut [u8; 1024]) -> Came
     requires { ⌜ Valid (stateOf panel) ⌝ }
-    ensures { λ r. ⌜ Valid (stateOf (r .told .panel)) ⌝ }
-    ensures through { λ r. ⌜ (r .told .number ≡ 0 → r .told .full ≡ false → r .told .place ≡ place + r .bytes / 4) ⌝ }
+    ensures { λ r. ⌜ Valid (stateOf (r .stop .panel)) ⌝ }
+    ensures through { λ r. ⌜ (r .stop .number ≡ 0 → r .stop .full ≡ false → r .stop .place ≡ place + r .bytes / 4) ⌝ }
 {
     let half = [0u8; 2048];
     let full = [0u8; 0];
@@ -96,7 +96,7 @@ fn part(panel: Panel, place: usize, frame: &mut [u8; 1024]) -> Came
     let n = filled.count;
     let unread = filled.failed;
     let mut text = io::large_buffer();
-    let told = playback::transcribe(
+    let stop = playback::transcribe(
         panel,
         place,
         &input[..n],
@@ -106,10 +106,10 @@ fn part(panel: Panel, place: usize, frame: &mut [u8; 1024]) -> Came
         false,
         &mut text,
     );
-    let length = told.filled;
+    let length = stop.filled;
     let written = print(&text[..length]);
     Came {
-        told,
+        stop,
         bytes: n,
         unread,
         unwritten: !written,
@@ -133,26 +133,26 @@ fn main() {
     let mut place: usize = 0;
     loop {
         let came = part(panel, place, &mut frame);
-        let told = came.told;
+        let stop = came.stop;
         if came.unwritten {
             return;
         }
-        if told.number != 0 {
-            print_last(told.place, told.number);
+        if stop.number != 0 {
+            print_last(stop.place, stop.number);
             return;
         }
         if came.unread {
             return;
         }
-        if told.full {
+        if stop.full {
             io::write_all(STDERR_FILENO, b"replay: too many records\n");
             return;
         }
         if came.bytes < 4096 {
-            print_last(told.place, 0);
+            print_last(stop.place, 0);
             return;
         }
-        panel = told.panel;
-        place = told.place;
+        panel = stop.panel;
+        place = stop.place;
     }
 }

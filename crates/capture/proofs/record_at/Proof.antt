@@ -25,7 +25,7 @@ use denote.Struct.Laws as LL
 use denote.Triple.Statement.{Triple}
 use denote.Triple.Table.{cited}
 use denote.Triple.Walked.{says, ends-at}
-use Rattle.capture.specs.Reader.{stepped}
+use Rattle.capture.specs.Reader.{readerStep}
 use Rattle.capture.specs.declared.Reader.{Reader}
 use Rattle.capture.specs.declared.Step.{Step}
 use Rattle.capture.proofs.Reader as T
@@ -59,7 +59,7 @@ abbrev Read : Lft → RattleType
 Read κ = S.the-row
 
 abbrev claim : Claim Read
-claim κ d t = t ≡ stepped d
+claim κ d t = t ≡ readerStep d
 
 module _ {M : Type 1} (𝓤 : URA M) (H : Heap 𝓤) (A : Atoms 𝓤) (W : Given 𝓤 H A) (κ : Lft) (q : Share) (d : Reader) (fits : d .at < 2 ^ 64) where
   -- the struct's lifetime as a local of a body has it
@@ -81,7 +81,7 @@ module _ {M : Type 1} (𝓤 : URA M) (H : Heap 𝓤) (A : Atoms 𝓤) (W : Given
   goes-step : (r : Reader) (u : Val) → ent 𝓤 (⋆ 𝓤 H A (‵ (Made κ .own r (u ∷ [])) ∷ (‵ (flft κ q) ⊛ ‵ ftrue) ∷ [])) (OnReader Read claim 𝓤 H A .pre (method.to Read claim 𝓤 H A κ q r u))
   goes-step r u = qed W (‵ (Made κ .own r (u ∷ [])) ∷ (‵ (flft κ q) ⊛ ‵ ftrue) ∷ []) ∵ nothing ! $ move ! (1 ∷ 0 ∷ []) $ fjoin ! $ move ! (1 ∷ 0 ∷ []) $ join ! $ frame ! $ done !
 
-  exits : (t : Step) (u : Val) → t ≡ stepped d → ent 𝓤 (⋆ 𝓤 H A (‵ (S.the-row .own t (u ∷ [])) ∷ (‵ (flft κ q) ⊛ ‵ ftrue) ∷ ‵ Own ∷ [])) (Post Read claim 𝓤 H A κ q d u)
+  exits : (t : Step) (u : Val) → t ≡ readerStep d → ent 𝓤 (⋆ 𝓤 H A (‵ (S.the-row .own t (u ∷ [])) ∷ (‵ (flft κ q) ⊛ ‵ ftrue) ∷ ‵ Own ∷ [])) (Post Read claim 𝓤 H A κ q d u)
   exits t u e =
       qed W (‵ (S.the-row .own t (u ∷ [])) ∷ (‵ (flft κ q) ⊛ ‵ ftrue) ∷ ‵ Own ∷ []) ∵
       suffices ! _ (ends-at 𝓤 H A (parts.ended Read) (parts.stayed Read) (parts.clauses Read claim 𝓤) W (parts.to Read claim 𝓤 H A κ q d) u t (tt, (tt, tt)) (tt, (tt, tt))) $ says ! e $
@@ -102,7 +102,7 @@ module _ {M : Type 1} (𝓤 : URA M) (H : Heap 𝓤) (A : Atoms 𝓤) (W : Given
       -- [the result; the token; what the slice owns; _3; …; _2; …; _1; …; room for _0; …]
       land ! (from ! (stop !)) (init ! 9 refl (LL.lawful S.the-type S′.the-laws 𝓤 H A W .typed t _ is′ .0)) $
       returns ! (look ! 9 refl) $ forget ! 3 refl $ forget ! 5 refl $ forget ! 7 refl $ forget ! 9 refl $
-      move ! (9 ∷ 10 ∷ []) $ free1 ! $ move ! (7 ∷ 8 ∷ []) $ free1 ! $ move ! (5 ∷ 6 ∷ []) $ free1 ! $ move ! (3 ∷ 4 ∷ []) $ free1 ! $ free0 ! $ by ! (exits t u′ (e′ ∙ ap stepped e))))))))
+      move ! (9 ∷ 10 ∷ []) $ free1 ! $ move ! (7 ∷ 8 ∷ []) $ free1 ! $ move ! (5 ∷ 6 ∷ []) $ free1 ! $ move ! (3 ∷ 4 ∷ []) $ free1 ! $ free0 ! $ by ! (exits t u′ (e′ ∙ ap readerStep e))))))))
 
 pub record-at-spec : {M : Type 1} → stated.statement M
 unfolding code.routine

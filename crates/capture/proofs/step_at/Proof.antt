@@ -5,17 +5,17 @@ use mathlib.Core.Path.{_≡_, ap, _∙_}
 use native.Mathlib.Omega.{arith}
 use Rattle.base.proofs.Lists.{drop-min}
 use Rattle.capture.specs.Part.{Part}
-use Rattle.capture.specs.Record.{answer}
-use Rattle.capture.specs.Capture.{answerAt, passed}
+use Rattle.capture.specs.Record.{readFirst}
+use Rattle.capture.specs.Capture.{readAt, passed}
 use Rattle.capture.proofs.Answers.{passed-within}
 use Rattle.capture.proofs.step_at.Statement.{statement}
 use Rattle.capture.proofs.step_at.Tie as tie
 
 -- the answer is that of the position
-found : (c : tie.After-passed) → c .before .read .result ≡ answerAt (c .before .before .before .before .args .capture .now) (c .before .before .before .before .args .at)
+found : (c : tie.After-passed) → c .before .read .result ≡ readAt (c .before .before .before .before .args .capture .now) (c .before .before .before .before .args .at)
 found c =
     let a = c .before .before .before .before .args in
-    c .before .read .ensures ∙ ap (λ (p : Part). answer (p .bytes)) (c .before .before .part-from .ensures) ∙ ap answer (drop-min (a .at) (a .capture .now))
+    c .before .read .ensures ∙ ap (λ (p : Part). readFirst (p .bytes)) (c .before .before .part-from .ensures) ∙ ap readFirst (drop-min (a .at) (a .capture .now))
 
 pub step-at-spec : {M : Type 1} → statement M
 step-at-spec =

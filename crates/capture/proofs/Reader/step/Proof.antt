@@ -3,7 +3,7 @@ use mathlib.Core.Path.{_≡_}
 use base.Logic.{id⊢}
 use contract.Running.{givenOf}
 use denote.Struct.Laws as LL
-use Rattle.capture.specs.Reader.{stepped}
+use Rattle.capture.specs.Reader.{readerStep}
 use Rattle.capture.proofs.Step as S
 use Rattle.capture.proofs.Step.Laws as S′
 use Rattle.capture.proofs.Answered.{answered}
@@ -17,6 +17,6 @@ use Rattle.capture.proofs.Reader.step.Code as code
 pub step-spec : {M : Type 1} → stated.statement M
 unfolding code.routine
 step-spec 𝓤 H 𝓜 𝓖 𝓡 =
-    answered (λ κ. S.the-row) (λ κ d r. r ≡ stepped d) 𝓤 H 𝓜 𝓖 𝓡 (λ κs a. step.clauses 𝓤 H (𝓖 .A) (𝓜 .mem) (𝓡 .run) κs a .ensures) (λ κs a g r e. id⊢ 𝓤 _)
+    answered (λ κ. S.the-row) (λ κ d r. r ≡ readerStep d) 𝓤 H 𝓜 𝓖 𝓡 (λ κs a. step.clauses 𝓤 H (𝓖 .A) (𝓜 .mem) (𝓡 .run) κs a .ensures) (λ κs a g r e. id⊢ 𝓤 _)
     S′.mir (λ κ r u is. LL.lawful S.the-type S′.the-laws 𝓤 H (𝓖 .A) (givenOf 𝓤 H 𝓜 𝓖) .typed r _ is .0)
     code.env key.name callee.name (code.unfolded 𝓤 H 𝓜 𝓡) callee.routine code.calls-capture·step-at (callee-thm.met 𝓤 H 𝓜 𝓖 𝓡)

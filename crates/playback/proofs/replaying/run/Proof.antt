@@ -9,7 +9,7 @@ use Rattle.panel.specs.Handed.{stateOf}
 use Rattle.capture.specs.declared.Answer.the-variants.{Record}
 use Rattle.capture.specs.declared.Step.{Step}
 use Rattle.capture.specs.Record.{number}
-use Rattle.capture.specs.Capture.{answerAt, passed}
+use Rattle.capture.specs.Capture.{readAt, passed}
 use Rattle.capture.proofs.Answers.{no-record-in-else}
 use Rattle.playback.proofs.Going.{Going, turned-away, begins, long, further, sized, tells-so-far, stops, is-full, room-for-line, countable, turns, refuses}
 use Rattle.playback.proofs.replaying.run.Statement.{statement}
@@ -23,7 +23,7 @@ abbrev μ-loop : tie.MeasureT-loop
 μ-loop place capture frame₀ half full phase text₀ telling number next₀ reached₀ reply₀ count₀ filled₀ at₀ frame text next reached reply count filled at = length capture - at
 
 -- the record that stands at the place
-known : (c : tie.After-answer Inv-loop μ-loop) → answerAt (c .before .before .before .before .before .before .before .before .before .before .before .args .capture .now) (c .before .before .before .loop .at) ≡ Record (c .answer .given .0 .0) (c .answer .given .0 .1 .0)
+known : (c : tie.After-answer Inv-loop μ-loop) → readAt (c .before .before .before .before .before .before .before .before .before .before .before .args .capture .now) (c .before .before .before .loop .at) ≡ Record (c .answer .given .0 .0) (c .answer .given .0 .1 .0)
 known c = sym (ap (λ (s : Step). s .answer) (c .before .before .record-at .ensures)) ∙ c .answer .given .1
 
 pub run-spec : {M : Type 1} → statement M

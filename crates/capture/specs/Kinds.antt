@@ -1,0 +1,49 @@
+-- Document 01, "Captures": the kinds of records. What holds of a kind is a table with a clause for each.
+use Prim.Native.Nat.{ℕ}
+use mathlib.Core.Bool.{Bool, true, false}
+use lib.Dec.{eqb, leb}
+use Rattle.base.specs.Choice.{if_then_else_}
+
+pub data Kind : Type 0 where
+  instructionWrite : Kind
+  dataWrite : Kind
+  statusRead : Kind
+  dataRead : Kind
+  eightBits : Kind
+  selectLow : Kind
+  reset : Kind
+
+-- refusal 8: a kind above 6
+abbrev pub known : ℕ → Bool
+known number = leb number 6
+
+-- by their numbers
+unfoldable pub kindOf : ℕ → Kind
+kindOf number =
+    if eqb number 0 then instructionWrite
+    else if eqb number 1 then dataWrite
+    else if eqb number 2 then statusRead
+    else if eqb number 3 then dataRead
+    else if eqb number 4 then eightBits
+    else if eqb number 5 then selectLow
+    else reset
+
+-- refusal 9: kinds 2, 3, 5 need value 0; 6 needs 0 or 1
+abbrev pub allowed : Kind → ℕ → Bool
+allowed instructionWrite value = true
+allowed dataWrite value = true
+allowed statusRead value = eqb value 0
+allowed dataRead value = eqb value 0
+allowed eightBits value = true
+allowed selectLow value = eqb value 0
+allowed reset value = leb value 1
+
+-- whether a reply is shown for it
+abbrev pub reads : Kind → Bool
+reads instructionWrite = false
+reads dataWrite = false
+reads statusRead = true
+reads dataRead = true
+reads eightBits = false
+reads selectLow = false
+reads reset = false
