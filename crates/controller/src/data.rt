@@ -42,7 +42,12 @@ pub(crate) fn store(
 }
 
 // The next half of the target's memory.
-pub(crate) fn find(text: &[u8; 128], glyph: &[u8; 128], graphic: &[u8; 2048], control: Control) -> u8
+pub(crate) fn find(
+    text: &[u8; 128],
+    glyph: &[u8; 128],
+    graphic: &[u8; 2048],
+    control: Control,
+) -> u8
     requires { ⌜ InRange control ⌝ }
     ensures { λ r. ⌜ r ≡ found (control .place .target) (control .place) (before text glyph graphic) ⌝ }
 {

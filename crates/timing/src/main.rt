@@ -3,7 +3,6 @@
 // `draw`, the whole picture. Before the writes come the few transfers that make the screen.
 // Prints a number that depends on all that was done, so that none of it can be left out.
 use controller::Control;
-use events::Event;
 use events::Made;
 use events::Transfer;
 use libc::STDOUT_FILENO;
@@ -106,13 +105,13 @@ fn on_lent(what: u8) -> u64 {
     let mut i: u32 = 0;
     while i < TIMES {
         let given = turn(what, i);
-        let answer = calls::call(
+        let answer = calls::transfer(
             &mut text,
             &mut glyph,
             &mut graphic,
             control,
             link,
-            Event::Transfer(given),
+            given,
             &mut frame,
             &half,
             &full,
