@@ -19,8 +19,8 @@ use Rattle.links.specs.declared.Link.{Link}
 use Rattle.links.specs.declared.Sync.the-variants.{Lost}
 use Rattle.links.specs.declared.Taken.{Taken}
 use Rattle.links.specs.declared.Taken.the-variants.{OtherLink, Carries}
-use Rattle.links.specs.Items.{WholeWrite, Item, write, beside, deed, Way, bytes, halves, serial, bitsOf, wires, writeDeeds, wireDeeds, idleOn, resting, syncAfter}
-use Rattle.links.specs.Connector.{Performed, Ran, Comes, otherLink, comes, next, preceded, carriedAt, takenAt, eventAt, runs, KeepsDl, Idles}
+use Rattle.links.specs.Items.{WholeWrite, Item, write, besideWires, deed, Way, wholeBytes, halves, serial, bitsOf, wires, writeDeeds, wireDeeds, idleOn, resting, syncAfter}
+use Rattle.links.specs.Connector.{Performed, CameAll, Comes, elsewhere, comes, next, preceded, carriedAt, takenAt, eventAt, runs, KeepsDl, Idles}
 use Rattle.links.proofs.ItemsAct.{items-act, lists-agree}
 use Rattle.picture.specs.declared.Look.{Look}
 use Rattle.picture.specs.Picture.{Fonts, Seen, fontsOf, lookOf}
@@ -59,16 +59,16 @@ deedCounts e b [] = []
 deedCounts e b (d ∷ ds) = countOf (performed (b .memories) (b .control) d) ∷ deedCounts e (board e .perform b d .state) ds
 
 -- calls in a row on a board on a link: where they stand, and what they answer
-record Tells (e : Seen) (b : Board) (l : Link) (events : List Event) (x : Ran Board) : Type 0 where
+record Tells (e : Seen) (b : Board) (l : Link) (events : List Event) (x : CameAll Board) : Type 0 where
   stands : afterCalls e (onLink b l) (b .frame) events ≡ standing (x .at .state) (x .at .link)
   accepted : numbersOf e (onLink b l) (b .frame) events ≡ replicate (length events) 0
   counted : countsOf e (onLink b l) (b .frame) events ≡ deedCounts e b (x .deeds)
 
 -- a run goes on from where its first event left it
-goes-on : (d : Deed) (r : Comes (Ran Board)) (x : Ran Board) → preceded (d ∷ []) r ≡ comes x →
-    (y : Ran Board) × ((r ≡ comes y) × (record { deeds = d ∷ y .deeds; at = y .at } ≡ x))
+goes-on : (d : Deed) (r : Comes (CameAll Board)) (x : CameAll Board) → preceded (d ∷ []) r ≡ comes x →
+    (y : CameAll Board) × ((r ≡ comes y) × (record { deeds = d ∷ y .deeds; at = y .at } ≡ x))
 unfolding preceded
-goes-on d otherLink x is = absurd (let z : _≡_ {A = ℕ} 0 1 = cc in omega arith)
+goes-on d elsewhere x is = absurd (let z : _≡_ {A = ℕ} 0 1 = cc in omega arith)
 goes-on d (comes y) x is = (y, (refl, cc))
 
 module _ (e : Seen) where
@@ -82,7 +82,7 @@ module _ (e : Seen) where
       by (Carries c) = record { state = refl; frame = refl; number = refl; reply = refl }
 
   -- what the connector reaches, the calls reach
-  runs-tell : (events : List Event) (b : Board) (l : Link) (x : Ran Board) → Fits e (b .frame) →
+  runs-tell : (events : List Event) (b : Board) (l : Link) (x : CameAll Board) → Fits e (b .frame) →
       runs (board e) (record { state = b; link = l }) events ≡ comes x → Tells e b l events x
   unfolding runs eventAt afterCalls answers deedCounts
   runs-tell [] b l x h is =
@@ -92,7 +92,7 @@ module _ (e : Seen) where
       by (λ to at. runs-tell events to at) (takenOn (onLink b l) event) (admitted e (onLink b l) (b .frame) event h) is
     where
       by :
-          ((to : Board) (at : Link) (y : Ran Board) → Fits e (to .frame) → runs (board e) (record { state = to; link = at }) events ≡ comes y →
+          ((to : Board) (at : Link) (y : CameAll Board) → Fits e (to .frame) → runs (board e) (record { state = to; link = at }) events ≡ comes y →
           Tells e to at events y)
           → (t : Taken)
           → called e (onLink b l) (b .frame) event ≡ unlessOther e (onLink b l) (b .frame) t
@@ -130,7 +130,7 @@ module _ (e : Seen) where
       ≡ replicate (callsFor way (write w) - 1) 0
       ++ (countOf (performed (b .memories) (b .control) (deed (write w))) ∷ deedCounts e (board e .perform b (deed (write w)) .state) ds)
   unfolding deedCounts wires bitsOf
-  write-counts bytes b w ds = refl
+  write-counts wholeBytes b w ds = refl
   write-counts (halves low) b w ds = quiet-counts 1 b (deed (write w) ∷ ds)
   write-counts serial b w ds = quiet-counts 23 b (deed (write w) ∷ ds)
 
@@ -141,12 +141,12 @@ module _ (e : Seen) where
       write-counts way b w (wireDeeds way list)
       ∙ ap (λ (ns : List ℕ). replicate (callsFor way (write w) - 1) 0 ++ (countOf (performed (b .memories) (b .control) (deed (write w))) ∷ ns))
       (wire-counts way list (board e .perform b (deed (write w)) .state))
-  wire-counts way (beside x ∷ list) b =
+  wire-counts way (besideWires x ∷ list) b =
       ap (λ (ns : List ℕ). countOf (performed (b .memories) (b .control) (x .deed)) ∷ ns) (wire-counts way list (board e .perform b (x .deed) .state))
 
 -- an idle link has nothing half received
 idle-rests : (way : Way) → idleOn way ≡ resting way Lost
-idle-rests bytes = refl
+idle-rests wholeBytes = refl
 idle-rests (halves low) = refl
 idle-rests serial = refl
 

@@ -150,15 +150,21 @@ module _ (e : Seen) where
       acted-but-dl s (performed (s .memories) (s .control) d) (performed (s .memories) (withDl true (s .control)) d)
       (performed-but-dl (s .memories) (s .control) d)
 
-  -- two writes alike, on two such boards, count the same and leave such boards
+  -- two boards that are the same but DL: writes alike and deeds leave such boards, and count the same
   module _ (s t : Board) (same-board : boardButDl s ≡ boardButDl t) where
+    act-agrees : {register : Bool} {b d : ℕ} → SameButBit4 register b d → boardButDl (act (board e) s register b) ≡ boardButDl (act (board e) t register d)
+    act-agrees {register} {b} {d} q =
+        act-but-dl s q
+        ∙ ap (λ (x : Board). boardButDl (act (board e) x register d)) same-board
+        ∙ sym (act-but-dl t {register = register} {b = d} same)
+
     pub write-agrees : (w v : WholeWrite) → w .register ≡ v .register → SameButBit4 (w .register) (w .byte) (v .byte) →
         boardButDl (act (board e) s (w .register) (w .byte)) ≡ boardButDl (act (board e) t (v .register) (v .byte))
-    write-agrees w v p q =
-        act-but-dl s q
-        ∙ ap (λ (x : Board). boardButDl (act (board e) x (w .register) (v .byte))) same-board
-        ∙ sym (act-but-dl t {register = w .register} {b = v .byte} same)
-        ∙ ap (λ (r : Bool). boardButDl (act (board e) t r (v .byte))) p
+    write-agrees w v p q = act-agrees q ∙ ap (λ (r : Bool). boardButDl (act (board e) t r (v .byte))) p
+
+    pub deed-agrees : (d : Deed) → boardButDl (board e .perform s d .state) ≡ boardButDl (board e .perform t d .state)
+    deed-agrees d =
+        deed-but-dl s d ∙ ap (λ (y : Board). boardButDl (board e .perform y d .state)) same-board ∙ sym (deed-but-dl t d)
 
     pub write-count-agrees : (w v : WholeWrite) → w .register ≡ v .register → SameButBit4 (w .register) (w .byte) (v .byte) →
         countOf (performed (s .memories) (s .control) (deed (write w))) ≡ countOf (performed (t .memories) (t .control) (deed (write v)))
@@ -177,12 +183,6 @@ module _ (e : Seen) where
 
   pub board-respects : Respected (board e) (λ s t. boardButDl s ≡ boardButDl t)
   board-respects = record {
-    writes = λ s t register b d h k same-board q.
-        act-but-dl s q
-        ∙ ap (λ (x : Board). boardButDl (act (board e) x register d)) same-board
-        ∙ sym (act-but-dl t {register = register} {b = d} same);
-    events = λ s t x same-board.
-        deed-but-dl s (x .deed)
-        ∙ ap (λ (y : Board). boardButDl (board e .perform y (x .deed) .state)) same-board
-        ∙ sym (deed-but-dl t (x .deed));
+    writes = λ s t register b d h k same-board q. act-agrees s t same-board q;
+    events = λ s t x same-board. deed-agrees s t same-board (x .deed);
   }

@@ -5,27 +5,27 @@ use mathlib.Core.Path.{_≡_, refl, ap}
 use native.Mathlib.Omega.{arith}
 use lib.ListN.{take, drop, replicate}
 use Rattle.controller.specs.Transfers.{performed}
-use Rattle.links.specs.Items.{Item, write, beside, deed, Way, bytes, halves, serial, bitsOf, wires, Alike, none, writes, events}
+use Rattle.links.specs.Items.{Item, write, besideWires, deed, Way, wholeBytes, halves, serial, bitsOf, wires, Alike, none, writes, events}
 use Rattle.links.specs.Connector.{act}
 use Rattle.picture.specs.Picture.{Seen}
 use Rattle.demands.specs.Wires.{Board, countOf, board, itemCounts, callsFor, atLast, byItem, sum}
-use Rattle.demands.proofs.ButDl.{boardButDl, write-agrees, write-count-agrees, deed-count-agrees, board-respects}
+use Rattle.demands.proofs.ButDl.{boardButDl, write-agrees, write-count-agrees, deed-agrees, deed-count-agrees}
 
 -- a count at the last of an item's calls is their sum
 module _ (n : ℕ) (ns : List ℕ) where
   sum-at-last : (way : Way) (item : Item) → sum (take (callsFor way item) (replicate (callsFor way item - 1) 0 ++ (n ∷ ns))) ≡ n
   unfolding sum wires bitsOf
-  sum-at-last bytes (write w) = omega arith
+  sum-at-last wholeBytes (write w) = omega arith
   sum-at-last (halves low) (write w) = omega arith
   sum-at-last serial (write w) = omega arith
-  sum-at-last way (beside x) = omega arith
+  sum-at-last way (besideWires x) = omega arith
 
   past-last : (way : Way) (item : Item) → drop (callsFor way item) (replicate (callsFor way item - 1) 0 ++ (n ∷ ns)) ≡ ns
   unfolding wires bitsOf
-  past-last bytes (write w) = refl
+  past-last wholeBytes (write w) = refl
   past-last (halves low) (write w) = refl
   past-last serial (write w) = refl
-  past-last way (beside x) = refl
+  past-last way (besideWires x) = refl
 
 pub sums-back : (e : Seen) (way : Way) (list : List Item) (b : Board) →
     map sum (byItem way list (atLast way list (itemCounts e b list))) ≡ itemCounts e b list
@@ -47,5 +47,5 @@ counts-agree e s t _ _ same (writes {w = w} {v = v} {ws = ws} {vs = vs} p q a) =
     cc (one, more)
 counts-agree e s t _ _ same (events {x = x} {ws = ws} {vs = vs} a) =
     let one = deed-count-agrees e s t same (x .deed) in
-    let more = counts-agree e (board e .perform s (x .deed) .state) (board e .perform t (x .deed) .state) ws vs (board-respects e .events s t x same) a in
+    let more = counts-agree e (board e .perform s (x .deed) .state) (board e .perform t (x .deed) .state) ws vs (deed-agrees e s t same (x .deed)) a in
     cc (one, more)

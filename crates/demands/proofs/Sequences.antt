@@ -1,13 +1,13 @@
 -- Over any sequence of calls, fonts and phase held, the frame goes on showing the picture.
 use Prim.Native.Nat.{ℕ}
 use mathlib.Core.List.{List, [], _∷_, _++_}
-use mathlib.Core.Path.{_≡_, refl, ap}
+use mathlib.Core.Path.{_≡_, refl, ap, _∙_}
 use lib.ListN.{length, replicate}
 use Rattle.picture.specs.Picture.{Seen, pictured}
 use Rattle.events.specs.declared.Event.{Event}
 use Rattle.calls.specs.State.{State, Valid}
 use Rattle.calls.specs.Calls.{called, afterCalls}
-use Rattle.calls.proofs.Kept.{called-valid}
+use Rattle.calls.proofs.Kept.{called-valid, called-length}
 use Rattle.demands.specs.Wires.{answers, numbersOf}
 use Rattle.demands.proofs.Repainted.{called-shows}
 
@@ -16,6 +16,12 @@ unfolding afterCalls
 after-valid e s frame [] v = v
 after-valid e s frame (call ∷ calls) v =
     after-valid e (called e s frame call .state) (called e s frame call .frame) calls (called-valid e s frame call v)
+
+pub after-length : (e : Seen) (s : State) (frame : List ℕ) (calls : List Event) → length (afterCalls e s frame calls .frame) ≡ length frame
+unfolding afterCalls
+after-length e s frame [] = refl
+after-length e s frame (call ∷ calls) =
+    after-length e (called e s frame call .state) (called e s frame call .frame) calls ∙ called-length e s frame call
 
 -- so a frame that begins as the picture goes on being it
 pub after-shows :

@@ -20,16 +20,17 @@ use Rattle.controller.specs.Instructions.{stepped, withWaiting, obeyed}
 use Rattle.controller.specs.Data.{stored, moved, movedOn}
 use Rattle.controller.specs.Named.{counterCell, instructionNames, writeNames, covers}
 use Rattle.controller.specs.Transfers.{executed, written, carriedOut, performed}
-use Rattle.links.specs.Items.{WholeWrite, Item, Way, bytes, halves, serial}
+use Rattle.links.specs.Items.{WholeWrite, Item, Way, wholeBytes, halves, serial}
 use Rattle.links.specs.Connector.{does}
 use Rattle.picture.specs.Picture.{Seen}
 use Rattle.repaint.specs.Repaint.{named, countNamed}
+use Rattle.base.proofs.Counting.{count-all}
 use Rattle.repaint.proofs.Counts.{count-whole, count-nothing}
 use Rattle.calls.specs.State.{State}
 use Rattle.calls.specs.Calls.{Stands}
 use Rattle.demands.specs.Wires.{Board, board, itemCounts, items, SetsDl, SetsWidth}
 use Rattle.demands.specs.Agreement.{ReceivedAsGiven}
-use Rattle.demands.specs.Stored.{instruction, datum, withTextWord, withGlyphWord, withGraphicWord, Begins, InText, TextCounts, InGlyph, GlyphCounts, InGraphic, GraphicCounts, WordsStored}
+use Rattle.demands.specs.Stored.{instruction, datum, withTextWord, withGlyphWord, withGraphicWord, allIf, textSizes, glyphSizes, graphicSizes, Begins, Stores, WordsStored}
 use Rattle.demands.proofs.Addresses.{says-text, says-glyph, says-graphic}
 use Rattle.demands.proofs.Agreement.{writes-are-received}
 use Rattle.demands.proofs.KeepDl.{function-sets-keep-dl}
@@ -69,17 +70,22 @@ module _ (e : Seen) (frame : List ℕ) (m : Memories) (k : Control) (b c : ℕ) 
   unfolding does performed carriedOut executed written stored obeyed moved movedOn
   text-left a h low = rw (says-text (k .sr) (k .place .target) a low h)
 
-  text-counted : (a : ℕ) (h : a < 256) → 0x80 ≤ a →
-      itemCounts e (from false false (k .sr) (k .place .waiting)) (instruction a h ∷ datum b p ∷ datum c q ∷ [])
-      ≡ (if k .standby then 1024 else countNamed (k .view) (m .text) (Cells (counterCell (k .place)) (Word (bits5-0 a))))
+  text-counted : (z : Bool) (a : ℕ) (h : a < 256) → 0x80 ≤ a →
+      itemCounts e (from false z (k .sr) (k .place .waiting)) (instruction a h ∷ datum b p ∷ datum c q ∷ [])
+      ≡ allIf (k .standby) (countNamed (k .view) (m .text) (Cells (counterCell (k .place)) (Word (bits5-0 a))))
       ∷ countNamed (k .view) (m .text) (Cells (Word (bits5-0 a)) Nowhere)
-      ∷ countNamed (k .view) (m .text) (Cells (Word (bits5-0 a)) (Word (stepped (k .entry .id) (bits5-0 a))))
+      ∷ allIf z (countNamed (k .view) (m .text) (Cells (Word (bits5-0 a)) (Word (stepped (k .entry .id) (bits5-0 a)))))
       ∷ []
   unfolding itemCounts performed carriedOut executed written stored obeyed moved movedOn instructionNames writeNames countNamed named covers
-  text-counted a h low =
-      let more = countNamed (k .view) (m .text) (Cells (Word (bits5-0 a)) Nowhere) ∷ countNamed (k .view) (m .text) (Cells (Word (bits5-0 a)) (Word (stepped (k .entry .id) (bits5-0 a)))) ∷ [] in
-      rw (says-text (k .sr) (k .place .target) a low h)
-      (ap (λ (n : ℕ). n ∷ more) (waking (k .view) (m .text) (k .standby) (Cells (counterCell (k .place)) (Word (bits5-0 a)))))
+  text-counted false a h low =
+      let first = waking (k .view) (m .text) (k .standby) (Cells (counterCell (k .place)) (Word (bits5-0 a))) in
+      let word = countNamed (k .view) (m .text) (Cells (Word (bits5-0 a)) Nowhere) in
+      let both = countNamed (k .view) (m .text) (Cells (Word (bits5-0 a)) (Word (stepped (k .entry .id) (bits5-0 a)))) in
+      rw (says-text (k .sr) (k .place .target) a low h) (ap (λ (n : ℕ). n ∷ word ∷ both ∷ []) first)
+  text-counted true a h low =
+      let first = waking (k .view) (m .text) (k .standby) (Cells (counterCell (k .place)) (Word (bits5-0 a))) in
+      let word = countNamed (k .view) (m .text) (Cells (Word (bits5-0 a)) Nowhere) in
+      rw (says-text (k .sr) (k .place .target) a low h, count-all 1024 (λ i. true) (λ i h. refl)) (ap (λ (n : ℕ). n ∷ word ∷ 1024 ∷ []) first)
 
   glyph-left : (a : ℕ) (h : a < 256) → 0x40 ≤ a → a < 0x80 →
       does (board e) (from false (k .entry .s) false (k .place .waiting)) (instruction a h ∷ datum b p ∷ datum c q ∷ []) .memories
@@ -89,7 +95,7 @@ module _ (e : Seen) (frame : List ℕ) (m : Memories) (k : Control) (b c : ℕ) 
 
   glyph-counted : (a : ℕ) (h : a < 256) → 0x40 ≤ a → a < 0x80 →
       itemCounts e (from false (k .entry .s) false (k .place .waiting)) (instruction a h ∷ datum b p ∷ datum c q ∷ [])
-      ≡ (if k .standby then 1024 else countNamed (k .view) (m .text) (Cells (counterCell (k .place)) Nowhere))
+      ≡ allIf (k .standby) (countNamed (k .view) (m .text) (Cells (counterCell (k .place)) Nowhere))
       ∷ countNamed (k .view) (m .text) (GlyphHalf (bits5-0 a) false)
       ∷ countNamed (k .view) (m .text) (GlyphHalf (bits5-0 a) true)
       ∷ []
@@ -110,7 +116,7 @@ module _ (e : Seen) (frame : List ℕ) (m : Memories) (k : Control) (b c : ℕ) 
 
   graphic-counted : (y x : ℕ) (h : y < 256) (i : x < 256) → 0x80 ≤ y → 0x80 ≤ x →
       itemCounts e (from true (k .entry .s) (k .sr) Nothing) (instruction y h ∷ instruction x i ∷ datum b p ∷ datum c q ∷ [])
-      ≡ (if k .standby then 1024 else 0)
+      ≡ allIf (k .standby) 0
       ∷ countNamed (k .view) (m .text) (Cells (counterCell (k .place)) Nowhere)
       ∷ countNamed (k .view) (m .text) (GraphicHalf (bits5-0 y) (bits3-0 x) false)
       ∷ countNamed (k .view) (m .text) (GraphicHalf (bits5-0 y) (bits3-0 x) true)
@@ -136,7 +142,7 @@ module _ (dl : Bool) (b c : ℕ) (p : b < 256) (q : c < 256) where
   sets-dl a h low = (λ r u v. absurd (omega arith), (λ r u v. absurd (true≢false r), (λ r u v. absurd (true≢false r), tt)))
 
 sets-width : (way : Way) (list : List WholeWrite) → ((dl : Bool) → SetsDl dl list) → SetsWidth way list
-sets-width bytes list h = h true
+sets-width wholeBytes list h = h true
 sets-width (halves low) list h = h false
 sets-width serial list h = tt
 
@@ -176,54 +182,56 @@ module _ (e : Seen) (way : Way) (s : State) (frame : List ℕ) (b c : ℕ) (p : 
   abbrev flags : Control
   flags = s .control
 
-  in-text : InText e way s frame b c p q
-  in-text a h low re =
-      ap (λ (x : Stands). x .state .memories) (word-received a h (omega arith) .stands)
-      ∙ ap (λ (x : Bool). left (word a h) (own x (flags .entry .s) (flags .sr) (flags .place .waiting))) re
-      ∙ text-left e frame (s .memories) flags b c p q a h low
+  text-stored : (a : ℕ) (h : a < 256) → s .control .function .re ≡ false → 0x80 ≤ a →
+      Stores e way s frame (word a h) (withTextWord (bits5-0 a) b c (s .memories)) (textSizes s (bits5-0 a))
+  text-stored a h re low =
+      record {
+        memories =
+            ap (λ (x : Stands). x .state .memories) (word-received a h (omega arith) .stands)
+            ∙ ap (λ (x : Bool). left (word a h) (own x (flags .entry .s) (flags .sr) (flags .place .waiting))) re
+            ∙ text-left e frame (s .memories) flags b c p q a h low;
+        counts =
+            word-received a h (omega arith) .sums
+            ∙ ap (λ (x : Bool). itemCounts e (own x (flags .entry .s) (flags .sr) (flags .place .waiting)) (word a h)) re
+            ∙ text-counted e frame (s .memories) flags b c p q (flags .entry .s) a h low;
+      }
 
-  in-glyph : InGlyph e way s frame b c p q
-  in-glyph a h low high re sr =
-      ap (λ (x : Stands). x .state .memories) (word-received a h low .stands)
-      ∙ ap (λ (x : Bool). left (word a h) (own x (flags .entry .s) (flags .sr) (flags .place .waiting))) re
-      ∙ ap (λ (x : Bool). left (word a h) (own false (flags .entry .s) x (flags .place .waiting))) sr
-      ∙ glyph-left e frame (s .memories) flags b c p q a h low high
+  glyph-stored : (a : ℕ) (h : a < 256) → s .control .function .re ≡ false → s .control .sr ≡ false → 0x40 ≤ a → a < 0x80 →
+      Stores e way s frame (word a h) (withGlyphWord (bits5-0 a) b c (s .memories)) (glyphSizes s (bits5-0 a))
+  glyph-stored a h re sr low high =
+      record {
+        memories =
+            ap (λ (x : Stands). x .state .memories) (word-received a h low .stands)
+            ∙ ap (λ (x : Bool). left (word a h) (own x (flags .entry .s) (flags .sr) (flags .place .waiting))) re
+            ∙ ap (λ (x : Bool). left (word a h) (own false (flags .entry .s) x (flags .place .waiting))) sr
+            ∙ glyph-left e frame (s .memories) flags b c p q a h low high;
+        counts =
+            word-received a h low .sums
+            ∙ ap (λ (x : Bool). itemCounts e (own x (flags .entry .s) (flags .sr) (flags .place .waiting)) (word a h)) re
+            ∙ ap (λ (x : Bool). itemCounts e (own false (flags .entry .s) x (flags .place .waiting)) (word a h)) sr
+            ∙ glyph-counted e frame (s .memories) flags b c p q a h low high;
+      }
 
-  in-graphic : InGraphic e way s frame b c p q
-  in-graphic y x h i low low' re waits =
-      ap (λ (x : Stands). x .state .memories) (graphic-received y x h i (omega arith) (omega arith) .stands)
-      ∙ ap (λ (r : Bool). left (graphicWord y x h i) (own r (flags .entry .s) (flags .sr) (flags .place .waiting))) re
-      ∙ ap (λ (w : Waiting). left (graphicWord y x h i) (own true (flags .entry .s) (flags .sr) w)) waits
-      ∙ graphic-left e frame (s .memories) flags b c p q y x h i low low'
+  graphic-stored : (y x : ℕ) (h : y < 256) (i : x < 256) → s .control .function .re ≡ true → s .control .place .waiting ≡ Nothing → 0x80 ≤ y → 0x80 ≤ x →
+      Stores e way s frame (graphicWord y x h i) (withGraphicWord (bits5-0 y) (bits3-0 x) b c (s .memories)) (graphicSizes s (bits5-0 y) (bits3-0 x))
+  graphic-stored y x h i re waits low low' =
+      record {
+        memories =
+            ap (λ (x : Stands). x .state .memories) (graphic-received y x h i (omega arith) (omega arith) .stands)
+            ∙ ap (λ (r : Bool). left (graphicWord y x h i) (own r (flags .entry .s) (flags .sr) (flags .place .waiting))) re
+            ∙ ap (λ (w : Waiting). left (graphicWord y x h i) (own true (flags .entry .s) (flags .sr) w)) waits
+            ∙ graphic-left e frame (s .memories) flags b c p q y x h i low low';
+        counts =
+            graphic-received y x h i (omega arith) (omega arith) .sums
+            ∙ ap (λ (r : Bool). itemCounts e (own r (flags .entry .s) (flags .sr) (flags .place .waiting)) (graphicWord y x h i)) re
+            ∙ ap (λ (w : Waiting). itemCounts e (own true (flags .entry .s) (flags .sr) w) (graphicWord y x h i)) waits
+            ∙ graphic-counted e frame (s .memories) flags b c p q y x h i low low';
+      }
 
-  text-counts : TextCounts e way s frame b c p q
-  text-counts a h low re z =
-      word-received a h (omega arith) .sums
-      ∙ ap (λ (x : Bool). itemCounts e (own x (flags .entry .s) (flags .sr) (flags .place .waiting)) (word a h)) re
-      ∙ ap (λ (x : Bool). itemCounts e (own false x (flags .sr) (flags .place .waiting)) (word a h)) z
-      ∙ text-counted e frame (s .memories) flags b c p q a h low
-
-  glyph-counts : GlyphCounts e way s frame b c p q
-  glyph-counts a h low high re sr =
-      word-received a h low .sums
-      ∙ ap (λ (x : Bool). itemCounts e (own x (flags .entry .s) (flags .sr) (flags .place .waiting)) (word a h)) re
-      ∙ ap (λ (x : Bool). itemCounts e (own false (flags .entry .s) x (flags .place .waiting)) (word a h)) sr
-      ∙ glyph-counted e frame (s .memories) flags b c p q a h low high
-
-  graphic-counts : GraphicCounts e way s frame b c p q
-  graphic-counts y x h i low low' re waits =
-      graphic-received y x h i (omega arith) (omega arith) .sums
-      ∙ ap (λ (r : Bool). itemCounts e (own r (flags .entry .s) (flags .sr) (flags .place .waiting)) (graphicWord y x h i)) re
-      ∙ ap (λ (w : Waiting). itemCounts e (own true (flags .entry .s) (flags .sr) w) (graphicWord y x h i)) waits
-      ∙ graphic-counted e frame (s .memories) flags b c p q y x h i low low'
-
-pub stored-words : WordsStored
-stored-words e way s frame b c p q begins =
+pub words-stored : WordsStored
+words-stored =
     record {
-      text = in-text e way s frame b c p q begins;
-      textCounts = text-counts e way s frame b c p q begins;
-      glyph = in-glyph e way s frame b c p q begins;
-      glyphCounts = glyph-counts e way s frame b c p q begins;
-      graphic = in-graphic e way s frame b c p q begins;
-      graphicCounts = graphic-counts e way s frame b c p q begins;
+      text = λ e way s frame a b c h p q begins. text-stored e way s frame b c p q begins a h;
+      glyph = λ e way s frame a b c h p q begins. glyph-stored e way s frame b c p q begins a h;
+      graphic = λ e way s frame y x b c h i p q begins. graphic-stored e way s frame b c p q begins y x h i;
     }

@@ -9,7 +9,7 @@ use Rattle.events.specs.declared.Event.{Event}
 use Rattle.links.specs.declared.Link.{Link}
 use Rattle.links.specs.declared.Sync.the-variants.{Lost}
 use Rattle.links.specs.Items.{WholeWrite, Item, Way, serial, wires, idleOn, resting, syncAfter, Alike}
-use Rattle.links.specs.Connector.{Came, Comes, otherLink, comes, eventAt, KeepsDl}
+use Rattle.links.specs.Connector.{Came, Comes, elsewhere, comes, eventAt, KeepsDl}
 use Rattle.picture.specs.Picture.{Seen}
 use Rattle.calls.specs.State.{State}
 use Rattle.calls.specs.Calls.{Called, refused, Fits, called, afterCalls}
@@ -23,7 +23,7 @@ pub record Does (k : Called) (o : Came Board) : Type 0 where
   pub reply : k .reply ≡ o .reply
 
 abbrev pub DoesBy : Called → State → List ℕ → Comes (Came Board) → Type 0
-DoesBy k s frame otherLink = k ≡ refused s frame 5
+DoesBy k s frame elsewhere = k ≡ refused s frame 5
 DoesBy k s frame (comes o) = Does k o
 
 -- 0. `board` is the panel: each call, a read too, does what the links' connector does with its event. So what holds of any controller

@@ -45,7 +45,7 @@ pub data TableSays (e : Seen) (frame : List ℕ) (other : Bool) : ℕ → Type 0
   halfFontLength : GoodFrame frame → (GoodHalfFont e → ⊥) → TableSays e frame other 2
   fullFontLength : GoodFrame frame → GoodHalfFont e → (GoodFullFont e → ⊥) → TableSays e frame other 3
   otherLink : GoodFrame frame → GoodHalfFont e → GoodFullFont e → other ≡ true → TableSays e frame other 5
-  accepted : GoodFrame frame → GoodHalfFont e → GoodFullFont e → other ≡ false → TableSays e frame other 0
+  allGood : GoodFrame frame → GoodHalfFont e → GoodFullFont e → other ≡ false → TableSays e frame other 0
 
 -- transfers are of the parallel link, serial bits and select-low of the serial one; reset is of both
 abbrev pub isSerial : Link → Bool
@@ -76,7 +76,7 @@ pub record DrawRefuses (e : Seen) (m : Memories) (c : Control) (frame : List ℕ
 -- the sender: 4 where its buffer is under 3 bytes
 pub data SenderSays (buffer : List ℕ) : ℕ → Type 0 where
   bufferLength : length buffer < 3 → SenderSays buffer 4
-  accepted : 3 ≤ length buffer → SenderSays buffer 0
+  roomEnough : 3 ≤ length buffer → SenderSays buffer 0
 
 pub record SendRefuses (register : Bool) (byte : ℕ) (buffer : List ℕ) : Type 0 where
   pub says : SenderSays buffer (sent register byte buffer .number)

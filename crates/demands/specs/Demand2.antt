@@ -23,6 +23,10 @@ use Rattle.picture.specs.Refusals.{leaves, drawn}
 use Rattle.controller.specs.State.{remade}
 use Rattle.calls.specs.State.{State, state, freshState}
 use Rattle.calls.specs.Calls.{Called, Fits, called}
+use Rattle.links.specs.Statements.{HalvesReadWhole}
+use Rattle.demands.specs.Wires.{board}
+use Rattle.demands.specs.Stored.{WordsStored}
+use Rattle.demands.specs.ReadBack.{ReadBack}
 use Rattle.demands.specs.Agreement.{CallIsConnected, SentIsReceived, WritesAreReceived, LinksAgree, FunctionSetsKeepDl}
 use Rattle.panel.specs.declared.Panel.{Panel}
 use Rattle.panel.specs.declared.Outcome.{Outcome}
@@ -109,6 +113,10 @@ pub record Demand2 : Type 0 where
   pub resets : ResetIsFresh
   pub selectLow : SelectLowIdles
   pub draws : DrawnIsPicture
+  -- the two bytes of a word are stored where document 01 says, over every way, and read back; by half bytes as by bytes
+  pub stores : WordsStored
+  pub readsBack : ReadBack
+  pub readsHalves : (e : Seen) → HalvesReadWhole (board e)
   -- what the sender writes is received as the bytes given; and so are writes over the other links
   pub sends : SendsThreeBytes
   pub receives : SentIsReceived

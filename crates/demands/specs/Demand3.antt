@@ -7,7 +7,7 @@ use Prim.Native.Nat.{ℕ, _≤_, _<_}
 use mathlib.Core.Bool.{Bool, true, false, _||_}
 use mathlib.Core.List.{List, [], _∷_}
 use mathlib.Core.Path.{_≡_}
-use lib.ListN.{getD}
+use lib.ListN.{length, getD}
 use Rattle.base.specs.Choice.{if_then_else_}
 use Rattle.base.specs.Painting.{count}
 use Rattle.controller.specs.Transfers.{Acted, performed}
@@ -58,6 +58,10 @@ NamedBytesShown =
     → getD (afterCalls e s frame calls .frame) i 0
     ≡ (if everNamed e s frame calls i then getD (pictureOf e (afterCalls e s frame calls .state)) i 0 else getD frame i 0)
 
+-- and the frame keeps its length
+abbrev pub KeepsLength : Type 0
+KeepsLength = (e : Seen) (s : State) (frame : List ℕ) (calls : List Event) → length (afterCalls e s frame calls .frame) ≡ length frame
+
 -- the reported number is the number of bytes named
 abbrev pub CountIsNumber : Type 0
 CountIsNumber =
@@ -74,7 +78,7 @@ AtMost64 =
     → s .control .entry .s ≡ false
     → called e s frame call .count ≤ 64
 
--- a glyph write names at most 32, and a graphic write one
+-- a glyph write names at most 32, and a graphic write at most one, whatever S is
 abbrev pub GlyphAtMost32 : Type 0
 GlyphAtMost32 =
     (e : Seen) (s : State) (frame : List ℕ) (call : Event) (byte : ℕ)
@@ -99,6 +103,7 @@ StaysValid = (e : Seen) (s : State) (frame : List ℕ) (calls : List Event) → 
 pub record Demand3 : Type 0 where
   pub stands : PictureStands
   pub shown : NamedBytesShown
+  pub lengths : KeepsLength
   pub counts : CountIsNumber
   pub bounded : AtMost64
   pub glyphBounded : GlyphAtMost32

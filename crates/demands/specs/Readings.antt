@@ -105,7 +105,7 @@ observed r =
       replies = map (λ k. k .reply) answered;
       counts = map (λ k. k .count) answered;
       numbers = map (λ k. k .number) answered;
-      end = afterCalls zeroFonts (freshState (r .parallel)) (replicate (r .frame) 0) (r .calls) .state;
+      end = afterCalls zeroFonts (freshState (r .made)) (replicate (r .frame) 0) (r .calls) .state;
     }
 
 -- a word of a memory, of its two halves

@@ -1,6 +1,6 @@
 -- Document 01, "Panel readings to be proved", cases 3, 5, 6, 8 and 11 for every address, every two bytes and every way: the hyphen and the
 -- seven. An address and two data writes put the first byte into the high half of the word there and the second into its low half; no
--- other byte of any memory changes; and each write counts the bytes that document 01 names for it. Proved in proofs/, as `stored-words`.
+-- other byte of any memory changes; and each write counts the bytes that document 01 names for it. Proved in proofs/, as `words-stored`.
 use Prim.Native.Nat.{ℕ, _≤_, _<_}
 use mathlib.Core.Bool.{Bool, true, false}
 use mathlib.Core.List.{List, [], _∷_}
@@ -47,9 +47,35 @@ withGraphicWord row column high low m =
 abbrev pub sizeOn : State → Region → ℕ
 sizeOn s region = countNamed (s .control .view) (s .memories .text) region
 
--- the first instruction names all 1,024 where it ends standby
-abbrev pub sizeWaking : State → Region → ℕ
-sizeWaking s region = if s .control .standby then 1024 else sizeOn s region
+-- all 1,024 where an instruction ends standby, or a text word completes with S = 1
+abbrev pub allIf : Bool → ℕ → ℕ
+allIf all size = if all then 1024 else size
+
+-- what an address and two bytes name. Text: the counter's cell before and after; the word's cell; the word's cell and, as the counter
+-- steps, the new word's
+abbrev pub textSizes : State → ℕ → List ℕ
+textSizes s word =
+    allIf (s .control .standby) (sizeOn s (Cells (counterCell (s .control .place)) (Word word)))
+    ∷ sizeOn s (Cells (Word word) Nowhere)
+    ∷ allIf (s .control .entry .s) (sizeOn s (Cells (Word word) (Word (stepped (s .control .entry .id) word))))
+    ∷ []
+
+-- glyph memory: the counter's cell before; each byte showing that half of that image row
+abbrev pub glyphSizes : State → ℕ → List ℕ
+glyphSizes s word =
+    allIf (s .control .standby) (sizeOn s (Cells (counterCell (s .control .place)) Nowhere))
+    ∷ sizeOn s (GlyphHalf word false)
+    ∷ sizeOn s (GlyphHalf word true)
+    ∷ []
+
+-- graphic memory: for a row alone none; the counter's cell before; each byte, if visible
+abbrev pub graphicSizes : State → ℕ → ℕ → List ℕ
+graphicSizes s row column =
+    allIf (s .control .standby) 0
+    ∷ sizeOn s (Cells (counterCell (s .control .place)) Nowhere)
+    ∷ sizeOn s (GraphicHalf row column false)
+    ∷ sizeOn s (GraphicHalf row column true)
+    ∷ []
 
 -- a panel whose link is idle and has the way's width, with frame and fonts that fit
 pub record Begins (e : Seen) (way : Way) (s : State) (frame : List ℕ) : Type 0 where
@@ -57,93 +83,39 @@ pub record Begins (e : Seen) (way : Way) (s : State) (frame : List ℕ) : Type 0
   pub idle : s .link ≡ idleOn way
   pub width : HasWidth way (s .control)
 
--- the calls that carry these items leave these memories
-abbrev pub Leaves : Seen → Way → State → List ℕ → List Item → Memories → Type 0
-Leaves e way s frame items m = afterCalls e s frame (wires way items) .state .memories ≡ m
+-- the calls that carry these writes leave these memories, and for each write count so many bytes
+pub record Stores (e : Seen) (way : Way) (s : State) (frame : List ℕ) (list : List Item) (m : Memories) (sizes : List ℕ) : Type 0 where
+  pub memories : afterCalls e s frame (wires way list) .state .memories ≡ m
+  pub counts : sumsOf e way s frame list ≡ sizes
 
-module _ (e : Seen) (way : Way) (s : State) (frame : List ℕ) (b c : ℕ) (p : b < 256) (q : c < 256) where
+pub record WordsStored : Type 0 where
   -- text, with RE = 0: the address is 80h..FFh, bit 6 dropped
-  abbrev pub InText : Type 0
-  InText =
-      (address : ℕ) (small : address < 256)
-      → 0x80 ≤ address
+  pub text :
+      (e : Seen) (way : Way) (s : State) (frame : List ℕ) (a b c : ℕ) (h : a < 256) (p : b < 256) (q : c < 256)
+      → Begins e way s frame
       → s .control .function .re ≡ false
-      → Leaves e way s frame (instruction address small ∷ datum b p ∷ datum c q ∷ []) (withTextWord (bits5-0 address) b c (s .memories))
-
-  -- with S = 0: the counter's cell before and after; the word's cell; the word's and, as the counter steps, the new word's
-  abbrev pub TextCounts : Type 0
-  TextCounts =
-      (address : ℕ) (small : address < 256)
-      → 0x80 ≤ address
-      → s .control .function .re ≡ false
-      → s .control .entry .s ≡ false
-      → let word : ℕ = bits5-0 address in
-      sumsOf e way s frame (instruction address small ∷ datum b p ∷ datum c q ∷ [])
-      ≡ sizeWaking s (Cells (counterCell (s .control .place)) (Word word))
-      ∷ sizeOn s (Cells (Word word) Nowhere)
-      ∷ sizeOn s (Cells (Word word) (Word (stepped (s .control .entry .id) word)))
-      ∷ []
-
+      → 0x80 ≤ a
+      → let word : ℕ = bits5-0 a in
+      Stores e way s frame (instruction a h ∷ datum b p ∷ datum c q ∷ []) (withTextWord word b c (s .memories)) (textSizes s word)
   -- glyph memory, with RE = 0 and SR = 0: the address is 40h..7Fh
-  abbrev pub InGlyph : Type 0
-  InGlyph =
-      (address : ℕ) (small : address < 256)
-      → 0x40 ≤ address
-      → address < 0x80
+  pub glyph :
+      (e : Seen) (way : Way) (s : State) (frame : List ℕ) (a b c : ℕ) (h : a < 256) (p : b < 256) (q : c < 256)
+      → Begins e way s frame
       → s .control .function .re ≡ false
       → s .control .sr ≡ false
-      → Leaves e way s frame (instruction address small ∷ datum b p ∷ datum c q ∷ []) (withGlyphWord (bits5-0 address) b c (s .memories))
-
-  -- the counter's cell before; then each byte showing that half of that image row
-  abbrev pub GlyphCounts : Type 0
-  GlyphCounts =
-      (address : ℕ) (small : address < 256)
-      → 0x40 ≤ address
-      → address < 0x80
-      → s .control .function .re ≡ false
-      → s .control .sr ≡ false
-      → sumsOf e way s frame (instruction address small ∷ datum b p ∷ datum c q ∷ [])
-      ≡ sizeWaking s (Cells (counterCell (s .control .place)) Nowhere)
-      ∷ sizeOn s (GlyphHalf (bits5-0 address) false)
-      ∷ sizeOn s (GlyphHalf (bits5-0 address) true)
-      ∷ []
-
-  -- graphic memory, with RE = 1, where no row waits for its column: both are 80h..FFh
-  abbrev pub InGraphic : Type 0
-  InGraphic =
-      (row column : ℕ) (small : row < 256) (small' : column < 256)
-      → 0x80 ≤ row
-      → 0x80 ≤ column
+      → 0x40 ≤ a
+      → a < 0x80
+      → let word : ℕ = bits5-0 a in
+      Stores e way s frame (instruction a h ∷ datum b p ∷ datum c q ∷ []) (withGlyphWord word b c (s .memories)) (glyphSizes s word)
+  -- graphic memory, with RE = 1, where no row waits for its column: row and column are 80h..FFh
+  pub graphic :
+      (e : Seen) (way : Way) (s : State) (frame : List ℕ) (y x b c : ℕ) (h : y < 256) (i : x < 256) (p : b < 256) (q : c < 256)
+      → Begins e way s frame
       → s .control .function .re ≡ true
       → s .control .place .waiting ≡ Nothing
-      → Leaves e way s frame (instruction row small ∷ instruction column small' ∷ datum b p ∷ datum c q ∷ [])
-      (withGraphicWord (bits5-0 row) (bits3-0 column) b c (s .memories))
-
-  -- a row alone: none; the counter's cell before; then each byte, if visible
-  abbrev pub GraphicCounts : Type 0
-  GraphicCounts =
-      (row column : ℕ) (small : row < 256) (small' : column < 256)
-      → 0x80 ≤ row
-      → 0x80 ≤ column
-      → s .control .function .re ≡ true
-      → s .control .place .waiting ≡ Nothing
-      → sumsOf e way s frame (instruction row small ∷ instruction column small' ∷ datum b p ∷ datum c q ∷ [])
-      ≡ (if s .control .standby then 1024 else 0)
-      ∷ sizeOn s (Cells (counterCell (s .control .place)) Nowhere)
-      ∷ sizeOn s (GraphicHalf (bits5-0 row) (bits3-0 column) false)
-      ∷ sizeOn s (GraphicHalf (bits5-0 row) (bits3-0 column) true)
-      ∷ []
-
-pub record WordStored (e : Seen) (way : Way) (s : State) (frame : List ℕ) (b c : ℕ) (p : b < 256) (q : c < 256) : Type 0 where
-  pub text : InText e way s frame b c p q
-  pub textCounts : TextCounts e way s frame b c p q
-  pub glyph : InGlyph e way s frame b c p q
-  pub glyphCounts : GlyphCounts e way s frame b c p q
-  pub graphic : InGraphic e way s frame b c p q
-  pub graphicCounts : GraphicCounts e way s frame b c p q
-
-abbrev pub WordsStored : Type 0
-WordsStored =
-    (e : Seen) (way : Way) (s : State) (frame : List ℕ) (b c : ℕ) (p : b < 256) (q : c < 256)
-    → Begins e way s frame
-    → WordStored e way s frame b c p q
+      → 0x80 ≤ y
+      → 0x80 ≤ x
+      → let row : ℕ = bits5-0 y in
+      let column : ℕ = bits3-0 x in
+      Stores e way s frame (instruction y h ∷ instruction x i ∷ datum b p ∷ datum c q ∷ []) (withGraphicWord row column b c (s .memories))
+      (graphicSizes s row column)

@@ -47,6 +47,10 @@ pub record Contract : Type 1 where
 abbrev pub Tight : Contract → Type 0
 Tight k = (i : k .Input) (x y : k .Outcome) → k .leaves x ≡ k .means i → k .leaves y ≡ k .means i → x ≡ y
 
+-- a call that leaves nothing but its answer
+abbrev pub answering : {I O : Type 0} → (I → O) → Contract
+answering {I} {O} means = record { Input = I; Outcome = O; Left = O; leaves = λ x. x; means = means }
+
 -- an outcome with a buffer as the call left it
 pub record With (A : Type 0) : Type 0 where
   pub result : A
@@ -70,6 +74,17 @@ pub record Sending : Type 0 where
   pub register : Bool
   pub byte : ℕ
   pub buffer : List ℕ
+
+-- `send`, and the same for other languages
+abbrev pub sends : Contract
+sends =
+    record {
+      Input = Sending;
+      Outcome = With ℕ;
+      Left = Sent;
+      leaves = λ x. sender.leaving (x .result) (x .buffer);
+      means = λ i. sent (i .register) (i .byte) (i .buffer);
+    }
 
 -- what a call on lent memories leaves
 pub record LeftLent : Type 0 where
@@ -128,10 +143,10 @@ pub record LastLine : Type 0 where
 -- the public calls whose outcome holds no new reference
 pub data PublicCall : Type 0 where
   fresh : PublicCall
-  -- transfer, bit, select_low and reset
+  -- transfer, bit, select_low and reset, each with its own event
   call : PublicCall
   draw : PublicCall
-  -- the same on lent memories
+  -- the same four on lent memories
   lentCall : PublicCall
   send : PublicCall
   read : PublicCall
@@ -177,21 +192,12 @@ contractOf lentCall =
       leaves = λ x. left (x .answer) (x .memories) (x .frame);
       means = λ i. called (i .seen) (i .state) (i .frame) (i .call);
     }
-contractOf send =
-    record {
-      Input = Sending;
-      Outcome = With ℕ;
-      Left = Sent;
-      leaves = λ x. sender.leaving (x .result) (x .buffer);
-      means = λ i. sent (i .register) (i .byte) (i .buffer);
-    }
-contractOf read = record { Input = List ℕ; Outcome = Answer; Left = Answer; leaves = λ r. r; means = answer }
-contractOf recordAt =
-    record { Input = At (List ℕ); Outcome = Step; Left = Step; leaves = λ r. r; means = λ i. stepAt (i .capture) (i .at) }
-contractOf answerNumber = record { Input = Answer; Outcome = ℕ; Left = ℕ; leaves = λ r. r; means = number }
-contractOf readerStep = record { Input = Reader; Outcome = Step; Left = Step; leaves = λ r. r; means = reader.stepped }
-contractOf readerOver =
-    record { Input = At (RefT (List ℕ)); Outcome = Reader; Left = Reader; leaves = λ r. r; means = λ i. reader.over (i .capture) (i .at) }
+contractOf send = sends
+contractOf read = answering answer
+contractOf recordAt = answering (λ (i : At (List ℕ)). stepAt (i .capture) (i .at))
+contractOf answerNumber = answering number
+contractOf readerStep = answering reader.stepped
+contractOf readerOver = answering (λ (i : At (RefT (List ℕ))). reader.over (i .capture) (i .at))
 contractOf replay =
     record {
       Input = Replaying Panel;
@@ -224,14 +230,7 @@ contractOf exportedDraw =
       leaves = λ x. refusals.leaves (x .result) (x .buffer);
       means = λ i. drawn (i .seen) (i .memories) (unpacked (i .control)) (i .frame);
     }
-contractOf exportedSend =
-    record {
-      Input = Sending;
-      Outcome = With ℕ;
-      Left = Sent;
-      leaves = λ x. sender.leaving (x .result) (x .buffer);
-      means = λ i. sent (i .register) (i .byte) (i .buffer);
-    }
+contractOf exportedSend = sends
 contractOf exportedReplay =
     record {
       Input = Exported;
@@ -240,6 +239,6 @@ contractOf exportedReplay =
       leaves = λ x. report (x .number) (x .frame) (x .state) (x .last);
       means = λ i. freshReplay (i .parallel) (i .seen) (i .capture) (i .frame) (i .state) (i .last);
     }
-contractOf braille = record { Input = List ℕ; Outcome = List ℕ; Left = List ℕ; leaves = λ r. r; means = brailleOf.braille }
-contractOf plain = record { Input = List ℕ; Outcome = List ℕ; Left = List ℕ; leaves = λ r. r; means = plainOf.plain }
-contractOf pbm = record { Input = List ℕ; Outcome = List ℕ; Left = List ℕ; leaves = λ r. r; means = pbmOf.pbm }
+contractOf braille = answering brailleOf.braille
+contractOf plain = answering plainOf.plain
+contractOf pbm = answering pbmOf.pbm

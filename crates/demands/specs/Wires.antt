@@ -14,7 +14,7 @@ use Rattle.events.specs.declared.Event.{Event}
 use Rattle.links.specs.declared.Link.{Link}
 use Rattle.events.specs.declared.Transfer.{Transfer}
 use Rattle.events.specs.declared.Transfer.the-variants.{Instruct, Write, Status, Read}
-use Rattle.links.specs.Items.{WholeWrite, Item, write, deed, Way, bytes, halves, serial, wires}
+use Rattle.links.specs.Items.{WholeWrite, Item, write, deed, Way, wholeBytes, halves, serial, wires}
 use Rattle.links.specs.Connector.{Performed, Controller, does}
 use Rattle.picture.specs.Picture.{Seen, fontsOf, lookOf}
 use Rattle.repaint.specs.Repaint.{repainted, countNamed}
@@ -117,7 +117,7 @@ withDl dl c = withFunction (record { dl = dl; re = c .function .re; g = c .funct
 
 -- the DL that a way's link works with: 1 for bytes, 0 for half bytes, either for serial
 abbrev pub HasWidth : Way → Control → Type 0
-HasWidth bytes c = c .function .dl ≡ true
+HasWidth wholeBytes c = c .function .dl ≡ true
 HasWidth (halves low) c = c .function .dl ≡ false
 HasWidth serial c = Unit {0}
 
@@ -128,7 +128,7 @@ SetsDl dl (w ∷ writes) = (w .register ≡ false → 0x20 ≤ w .byte → w .by
 
 -- bit 4 of function sets keeps the link's DL
 abbrev pub SetsWidth : Way → List WholeWrite → Type 0
-SetsWidth bytes writes = SetsDl true writes
+SetsWidth wholeBytes writes = SetsDl true writes
 SetsWidth (halves low) writes = SetsDl false writes
 SetsWidth serial writes = Unit {0}
 

@@ -24,21 +24,21 @@ use Rattle.links.specs.Halves.{bits7-4, writing, acts, paired}
 use Rattle.links.specs.Serial.{Listened, listened}
 use Rattle.links.specs.Sender.{threeBytes}
 use Rattle.links.specs.Taken.{byWidth, takenBy, deedOf}
-use Rattle.links.specs.Items.{WholeWrite, Item, write, beside, Way, bytes, halves, serial, above, bitsOf, eventsOf, writeDeeds, onward, wires, wireDeeds, syncAfter, Alike, none, writes, events}
-use Rattle.links.specs.Connector.{Performed, Controller, Connected, Ran, Comes, otherLink, comes, preceded, rests, carriedAt, eventAt, runs, act, allCarried, does, HasDl, KeepsDl, Idles}
+use Rattle.links.specs.Items.{WholeWrite, Item, write, besideWires, Way, wholeBytes, halves, serial, above, bitsOf, eventsOf, writeDeeds, onward, wires, wireDeeds, syncAfter, Alike, none, writes, events}
+use Rattle.links.specs.Connector.{Performed, Controller, Connected, CameAll, Comes, elsewhere, comes, preceded, rests, carriedAt, eventAt, runs, act, does, HasDl, KeepsDl, Idles}
 use Rattle.links.specs.Statements.{ItemsAct, Respected, ListsAgree}
 use Rattle.links.proofs.HalvesPaired.{second-half-acts}
 use Rattle.links.proofs.WriteHeard.{last-bit-acts}
 
 -- deeds before a run: none, or one before some
-preceded-none : {S : Type 0} (x : Comes (Ran S)) → preceded [] x ≡ x
+preceded-none : {S : Type 0} (x : Comes (CameAll S)) → preceded [] x ≡ x
 unfolding preceded
-preceded-none otherLink = refl
+preceded-none elsewhere = refl
 preceded-none (comes r) = refl
 
-preceded-one : {S : Type 0} (d : Deed) (ds : List Deed) (x : Comes (Ran S)) → preceded (d ∷ []) (preceded ds x) ≡ preceded (d ∷ ds) x
+preceded-one : {S : Type 0} (d : Deed) (ds : List Deed) (x : Comes (CameAll S)) → preceded (d ∷ []) (preceded ds x) ≡ preceded (d ∷ ds) x
 unfolding preceded
-preceded-one d ds otherLink = refl
+preceded-one d ds elsewhere = refl
 preceded-one d ds (comes r) = refl
 
 module _ {S : Type 0} (on : Controller S) where
@@ -50,20 +50,25 @@ module _ {S : Type 0} (on : Controller S) where
   unfolding runs eventAt takenBy
   transfer-first s pairing t dl c rest d e = rw (d, e)
 
+  -- all that some bits brought acts, in order
+  abbrev allCarried : S → List Received → S
+  allCarried s [] = s
+  allCarried s (x ∷ xs) = allCarried (on .perform s (deedOf x) .state) xs
+
   -- bits, then the rest
   bits-first : (bits : List Bool) (s : S) (receiver : Receiver) (rest : List Event) →
       runs on (record { state = s; link = Serial receiver }) (map Bit bits ++ rest)
       ≡ preceded (map deedOf (listened receiver bits .brought))
-      (runs on (record { state = allCarried on s (listened receiver bits .brought); link = Serial (listened receiver bits .receiver) }) rest)
+      (runs on (record { state = allCarried s (listened receiver bits .brought); link = Serial (listened receiver bits .receiver) }) rest)
   unfolding runs eventAt takenBy listened
   bits-first [] s receiver rest = sym (preceded-none _)
   bits-first (b ∷ bits) s receiver rest = ap (preceded _) (bits-first bits _ _ rest) ∙ preceded-one _ _ _
 
   module _ (idles : Idles on) where
     -- bits that bring nothing, then a byte
-    quiet : (n : ℕ) (s : S) (xs : List Received) → allCarried on s (replicate n Nothing ++ xs) ≡ allCarried on s xs
+    quiet : (n : ℕ) (s : S) (xs : List Received) → allCarried s (replicate n Nothing ++ xs) ≡ allCarried s xs
     quiet zero s xs = refl
-    quiet (suc n) s xs = ap (λ (a : Performed S). allCarried on (a .state) (replicate n Nothing ++ xs)) (idles s) ∙ quiet n s xs
+    quiet (suc n) s xs = ap (λ (a : Performed S). allCarried (a .state) (replicate n Nothing ++ xs)) (idles s) ∙ quiet n s xs
 
     -- a write's second half leaves nothing open
     write-closes : (s : S) (register : Bool) (byte : ℕ) →
@@ -77,7 +82,7 @@ module _ {S : Type 0} (on : Controller S) where
         runs on (rests way s sync) (eventsOf way w ++ rest)
         ≡ preceded (writeDeeds way w) (runs on (rests (onward way) (act on s (w .register) (w .byte)) (Body (w .register) 0 0)) rest)
     unfolding HasDl byWidth
-    write-first bytes s sync w items rest d = transfer-first s Empty (writing (w .register) (w .byte)) true _ rest (d .0) refl
+    write-first wholeBytes s sync w items rest d = transfer-first s Empty (writing (w .register) (w .byte)) true _ rest (d .0) refl
     write-first (halves low) s sync w items rest d =
         let both = second-half-acts (w .register) (w .byte) (w .small) (low 0) (low 1) in
         transfer-first s Empty _ false _ _ (d .0) (both .0)
@@ -90,7 +95,7 @@ module _ {S : Type 0} (on : Controller S) where
     write-first serial s sync w items rest d =
         bits-first (bitsOf (threeBytes (w .register) (w .byte))) s (Outside 0 sync) rest
         ∙ ap (λ (l : Listened). preceded (map deedOf (l .brought))
-        (runs on (record { state = allCarried on s (l .brought); link = Serial (l .receiver) }) rest))
+        (runs on (record { state = allCarried s (l .brought); link = Serial (l .receiver) }) rest))
         (last-bit-acts sync (w .register) (w .byte) (w .small))
         ∙ ap (λ (t : S). preceded (writeDeeds serial w) (runs on (record { state = t; link = Serial (Outside 0 (Body (w .register) 0 0)) }) rest))
         (quiet 23 s (Byte (w .register) (w .byte) ∷ []))
@@ -99,22 +104,22 @@ module _ {S : Type 0} (on : Controller S) where
   keeps-on : (way : Way) (s : S) (item : Item) (items : List Item) → KeepsDl on way s (item ∷ items) →
       KeepsDl on way (does on s (item ∷ [])) items
   unfolding HasDl does
-  keeps-on bytes s item items d = d .1
+  keeps-on wholeBytes s item items d = d .1
   keeps-on (halves low) s item items d = d .1
   keeps-on serial s item items d = d
 
   keeps-onward : (way : Way) (s : S) (items : List Item) → KeepsDl on way s items → KeepsDl on (onward way) s items
-  keeps-onward bytes s items d = d
+  keeps-onward wholeBytes s items d = d
   keeps-onward (halves low) s items d = d
   keeps-onward serial s items d = d
 
   onward-rests : (way : Way) (s : S) (sync : Sync) → rests (onward way) s sync ≡ rests way s sync
-  onward-rests bytes s sync = refl
+  onward-rests wholeBytes s sync = refl
   onward-rests (halves low) s sync = refl
   onward-rests serial s sync = refl
 
   onward-write : (way : Way) (w : WholeWrite) → writeDeeds (onward way) w ≡ writeDeeds way w
-  onward-write bytes w = refl
+  onward-write wholeBytes w = refl
   onward-write (halves low) w = refl
   onward-write serial w = refl
 
@@ -122,7 +127,7 @@ module _ {S : Type 0} (on : Controller S) where
   unfolding wireDeeds
   onward-deeds way [] = refl
   onward-deeds way (write w ∷ items) = rw (onward-write way w, onward-deeds way items)
-  onward-deeds way (beside x ∷ items) = ap (λ (ds : List Deed). x .deed ∷ ds) (onward-deeds way items)
+  onward-deeds way (besideWires x ∷ items) = ap (λ (ds : List Deed). x .deed ∷ ds) (onward-deeds way items)
 
   pub items-act : ItemsAct on
   unfolding preceded runs eventAt wires wireDeeds syncAfter does
@@ -135,10 +140,10 @@ module _ {S : Type 0} (on : Controller S) where
       ∙ ap (λ (ds : List Deed). comes (record { deeds = writeDeeds way w ++ ds; at = rests (onward way) (does on s (write w ∷ items)) (syncAfter sync (write w ∷ items)) }))
       (onward-deeds way items)
       ∙ ap (λ (at : Connected S). comes (record { deeds = wireDeeds way (write w ∷ items); at = at })) (onward-rests way _ _)
-  items-act idles way s sync (beside x ∷ items) d =
+  items-act idles way s sync (besideWires x ∷ items) d =
       rw (x .alike)
       (ap (preceded (x .deed ∷ []))
-      (items-act idles way (on .perform s (x .deed) .state) sync items (keeps-on way s (beside x) items d)))
+      (items-act idles way (on .perform s (x .deed) .state) sync items (keeps-on way s (besideWires x) items d)))
 
   module _ (_≈_ : S → S → Type 0) where
     infix 4 _≈_

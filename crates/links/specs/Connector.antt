@@ -8,13 +8,12 @@ use Rattle.events.specs.declared.Deed.{Deed}
 use Rattle.events.specs.declared.Deed.the-variants.{Nothing, Whole}
 use Rattle.links.specs.declared.Link.{Link}
 use Rattle.links.specs.declared.Sync.{Sync}
-use Rattle.links.specs.declared.Received.{Received}
 use Rattle.links.specs.declared.Carried.{Carried}
 use Rattle.links.specs.declared.Taken.{Taken}
 use Rattle.links.specs.declared.Taken.the-variants.{OtherLink, Carries}
 use Rattle.links.specs.Halves.{writing}
-use Rattle.links.specs.Taken.{deedOf, takenBy, replied}
-use Rattle.links.specs.Items.{Item, deed, Way, bytes, halves, serial, resting}
+use Rattle.links.specs.Taken.{takenBy, replied}
+use Rattle.links.specs.Items.{Item, deed, Way, wholeBytes, halves, serial, resting}
 
 -- the state that a deed leaves, and the byte that a read answers
 pub record Performed (S : Type 0) : Type 0 where
@@ -38,23 +37,23 @@ pub record Came (S : Type 0) : Type 0 where
   pub reply : ℕ
 
 -- what comes of events in turn: what of each reached the controller, and what they leave
-pub record Ran (S : Type 0) : Type 0 where
+pub record CameAll (S : Type 0) : Type 0 where
   pub deeds : List Deed
   pub at : Connected S
 
 -- something comes, unless an event is of the other link
 pub data Comes (X : Type 0) : Type 0 where
-  otherLink : Comes X
+  elsewhere : Comes X
   comes : X → Comes X
 
 -- and then
 abbrev pub next : {X Y : Type 0} → Comes X → (X → Comes Y) → Comes Y
-next otherLink then = otherLink
+next elsewhere then = elsewhere
 next (comes x) then = then x
 
 -- a run after these deeds
-unfoldable pub preceded : {S : Type 0} → List Deed → Comes (Ran S) → Comes (Ran S)
-preceded deeds otherLink = otherLink
+unfoldable pub preceded : {S : Type 0} → List Deed → Comes (CameAll S) → Comes (CameAll S)
+preceded deeds elsewhere = elsewhere
 preceded deeds (comes r) = comes (record { deeds = deeds ++ r .deeds; at = r .at })
 
 -- a state on the link of a way, with nothing half received
@@ -76,7 +75,7 @@ module _ {S : Type 0} (on : Controller S) where
   carriedAt s c = goesBack c (on .perform s (c .deed))
 
   abbrev pub takenAt : S → Taken → Comes (Came S)
-  takenAt s OtherLink = otherLink
+  takenAt s OtherLink = elsewhere
   takenAt s (Carries c) = comes (carriedAt s c)
 
   -- one event
@@ -84,18 +83,13 @@ module _ {S : Type 0} (on : Controller S) where
   eventAt at event = takenAt (at .state) (takenBy (on .dl (at .state)) (at .link) event)
 
   -- events in turn, up to one of the other link
-  unfoldable pub runs : Connected S → List Event → Comes (Ran S)
+  unfoldable pub runs : Connected S → List Event → Comes (CameAll S)
   runs at [] = comes (record { deeds = []; at = at })
   runs at (event ∷ events) = next (eventAt at event) (λ o. preceded (o .deed ∷ []) (runs (o .at) events))
 
   -- the state after a byte written to a register
   abbrev pub act : S → Bool → ℕ → S
   act s register byte = on .perform s (Whole (writing register byte)) .state
-
-  -- all that some bits brought acts, in order
-  abbrev pub allCarried : S → List Received → S
-  allCarried s [] = s
-  allCarried s (x ∷ xs) = allCarried (on .perform s (deedOf x) .state) xs
 
   -- the items themselves: each is done, in order
   unfoldable pub does : S → List Item → S
@@ -109,7 +103,7 @@ module _ {S : Type 0} (on : Controller S) where
 
   -- the items keep each link's DL: 1 for bytes, 0 for half bytes, either for serial
   abbrev pub KeepsDl : Way → S → List Item → Type 0
-  KeepsDl bytes s items = HasDl true s items
+  KeepsDl wholeBytes s items = HasDl true s items
   KeepsDl (halves low) s items = HasDl false s items
   KeepsDl serial s items = Unit {0}
 
