@@ -2,8 +2,8 @@
 use borrow.Author.Needs.{needs}
 use Rattle.calls.specs.State.{Valid}
 use Rattle.panel.specs.Handed.{stateOf}
-use Rattle.doors.proofs.heard.Statement.{statement}
-use Rattle.doors.proofs.heard.Tie as tie
+use Rattle.vectors.proofs.refusals.heard.Statement.{statement}
+use Rattle.vectors.proofs.refusals.heard.Tie as tie
 
 abbrev Inv-loop : tie.InvT-loop
 Inv-loop bits number panel₀ rest₀ left₀ panel rest left = Valid (stateOf panel)

@@ -1,7 +1,8 @@
 // Hears serial wires bit by bit, each from an idle link, and prints what was received: writes from the sender, document 01's
 // readings 11 and 12, the read that it warns of, and wires on which a receiver that hunts, counts or keeps sync wrongly
 // would receive something else.
-use libc::STDOUT_FILENO;
+use crate::saying::print;
+use crate::saying::print_byte;
 use links::Received;
 use links::Receiver;
 
@@ -11,7 +12,7 @@ struct Ear {
     any: bool,
 }
 
-fn main() {
+pub(crate) fn wires() {
     print(b"instruction 30h from the sender:");
     sent(false, 0x30);
     print(b"data 2Dh from the sender:");
@@ -24,6 +25,10 @@ fn main() {
     wire(b"\xFA\x20\xD0\x30\x70");
     print(b"three writes, f8 80 00 fa 20 d0 fa 30 70:");
     wire(b"\xF8\x80\x00\xFA\x20\xD0\xFA\x30\x70");
+    damaged_wires();
+}
+
+fn damaged_wires() {
     print(b"read data, 11111110, fe 20 d0:");
     wire(b"\xFE\x20\xD0");
     print(b"five ones only inside that header, fe 08 34 00:");
@@ -112,11 +117,11 @@ fn bit_heard(ear: Ear, bit: bool) -> Ear {
 
 fn told(register: bool, byte: u8) {
     if register {
-        print(b" data ");
+        print(b" data");
     } else {
-        print(b" instruction ");
+        print(b" instruction");
     }
-    io::print_hex(STDOUT_FILENO, byte as u64, 2);
+    print_byte(b" ", byte);
 }
 
 fn end(ear: Ear) {
@@ -124,8 +129,4 @@ fn end(ear: Ear) {
         print(b" nothing");
     }
     print(b"\n");
-}
-
-fn print(text: &[u8]) {
-    io::write_all(STDOUT_FILENO, text);
 }

@@ -1,8 +1,8 @@
 -- Each turn counts at most one byte.
 use Prim.Native.Nat.{_≤_, _-_}
 use borrow.Author.Needs.{needs}
-use Rattle.doors.proofs.changed.Statement.{statement}
-use Rattle.doors.proofs.changed.Tie as tie
+use Rattle.vectors.proofs.refusals.changed.Statement.{statement}
+use Rattle.vectors.proofs.refusals.changed.Tie as tie
 
 abbrev Inv-loop : tie.InvT-loop
 Inv-loop frame count₀ i₀ i-end count i = (count ≤ i) × (i ≤ i-end)

@@ -2,8 +2,8 @@
 use Prim.Native.Nat.{_-_}
 use borrow.Author.Needs.{needs}
 use lib.ListN.{length}
-use Rattle.hearing.proofs.heard.Statement.{statement}
-use Rattle.hearing.proofs.heard.Tie as tie
+use Rattle.vectors.proofs.hearing.heard.Statement.{statement}
+use Rattle.vectors.proofs.hearing.heard.Tie as tie
 
 abbrev Inv-loop : tie.InvT-loop
 Inv-loop bytes next₀ i₀ next i = Unit {0}

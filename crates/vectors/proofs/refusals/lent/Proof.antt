@@ -2,8 +2,8 @@
 use borrow.Author.Needs.{needs}
 use lib.Seq.{length-take-le}
 use mathlib.Core.Path.{sym}
-use Rattle.doors.proofs.lent.Statement.{statement}
-use Rattle.doors.proofs.lent.Tie as tie
+use Rattle.vectors.proofs.refusals.lent.Statement.{statement}
+use Rattle.vectors.proofs.refusals.lent.Tie as tie
 
 pub lent-spec : {M : Type 1} → statement M
 lent-spec =

@@ -1,44 +1,31 @@
-// Runs document 01's readings 3 and 5 through the panel's calls, with their counts, and every refusal of these calls. Beside a refusal
-// it prints how much of the lent frame was changed, and what a right call then answers on the panel that was handed on.
+// Every refusal of the panel's calls. Beside a refusal it is printed how much of the lent frame was changed, and what a right call then
+// answers on the panel that was handed on.
+use crate::readings::print_answer;
+use crate::readings::print_state;
+use crate::readings::transferred;
+use crate::saying::print;
+use crate::saying::print_count;
 use events::Made;
 use events::Pin;
 use events::Transfer;
-use libc::STDOUT_FILENO;
 use panel::Outcome;
 use panel::Panel;
 ghost use Prim.Native.Nat.{_≤_};
 ghost use Rattle.calls.specs.State.{Valid};
 ghost use Rattle.panel.specs.Handed.{stateOf};
 
-// What a script's byte pairs say: a kind, as in captures, and a value.
-const INSTRUCT: u8 = 0;
-
-const WRITE: u8 = 1;
-
-const STATUS: u8 = 2;
-
 // What a frame holds before the refused calls. A panel whose display is off paints zeros.
 const UNTOUCHED: u8 = 0xAA;
 
-fn print(text: &[u8]) {
-    io::write_all(STDOUT_FILENO, text);
-}
-
-fn print_count(label: &[u8], count: usize) {
-    print(label);
-    io::print_decimal(STDOUT_FILENO, count as u64);
-}
-
-fn print_byte(label: &[u8], byte: u8) {
-    print(label);
-    io::print_hex(STDOUT_FILENO, byte as u64, 2);
-}
-
-// The refusal number, the reply and the count.
-fn print_answer(label: &[u8], number: u8, reply: u8, count: usize) {
-    print_count(label, number as usize);
-    print_byte(b" ", reply);
-    print_count(b" ", count);
+// What drawing a fresh panel into the frame answers.
+pub(crate) fn print_drawing(frame: &mut [u8]) {
+    let half = [0u8; 2048];
+    let full = [0u8; 32];
+    let panel = Panel::fresh(Made { parallel: true });
+    let number = panel.draw(frame, &half, &full, false);
+    print_count(b"", frame.len());
+    print_count(b" ", number as usize);
+    print(b"\n");
 }
 
 // Prints what a call answered, and hands the panel on.
@@ -50,37 +37,6 @@ fn told(label: &[u8], outcome: Outcome) -> Panel
     outcome.panel
 }
 
-fn print_state(panel: Panel) {
-    print_byte(b", word 0 ", panel.text[0]);
-    print_byte(b"", panel.text[1]);
-    print_byte(b", counter ", panel.control.place.counter);
-    print(b"\n");
-}
-
-fn transfer_of(kind: u8, value: u8) -> Transfer {
-    if kind == INSTRUCT {
-        return Transfer::Instruct(value);
-    }
-    if kind == WRITE {
-        return Transfer::Write(value);
-    }
-    if kind == STATUS {
-        return Transfer::Status;
-    }
-    Transfer::Read
-}
-
-// A transfer with right buffers.
-fn transferred(panel: Panel, given: Transfer) -> Outcome
-    requires { ⌜ Valid (stateOf panel) ⌝ }
-    ensures { λ r. ⌜ Valid (stateOf (r .panel)) ⌝ }
-{
-    let mut frame = [0u8; 1024];
-    let half = [0u8; 2048];
-    let full = [0u8; 32];
-    panel.transfer(given, &mut frame, &half, &full, false)
-}
-
 // A serial bit with right buffers.
 fn shifted(panel: Panel, given: bool) -> Outcome
     requires { ⌜ Valid (stateOf panel) ⌝ }
@@ -90,32 +46,6 @@ fn shifted(panel: Panel, given: bool) -> Outcome
     let half = [0u8; 2048];
     let full = [0u8; 32];
     panel.bit(given, &mut frame, &half, &full, false)
-}
-
-fn turn(panel: Panel, kind: u8, value: u8) -> Panel
-    requires { ⌜ Valid (stateOf panel) ⌝ }
-    ensures { λ r. ⌜ Valid (stateOf r) ⌝ }
-{
-    let given = transfer_of(kind, value);
-    told(b" | ", transferred(panel, given))
-}
-
-// A script on a fresh panel of the parallel link; each transfer's answer is printed.
-fn run(script: &[u8]) -> Panel
-    ensures { λ r. ⌜ Valid (stateOf r) ⌝ }
-{
-    let mut panel = Panel::fresh(Made { parallel: true });
-    let pairs = script.len() / 2;
-    for i in 0..pairs {
-        let at = 2 * i;
-        panel = turn(panel, script[at], script[at + 1]);
-    }
-    panel
-}
-
-fn reading(label: &[u8], script: &[u8]) {
-    print(label);
-    print_state(run(script));
 }
 
 // A panel of the parallel link that has written 2Dh to the high half of word 0.
@@ -181,11 +111,10 @@ fn drop(panel: Panel, pin: Pin, frame: &mut [u8], half: &[u8], full: &[u8]) -> P
     told(b", reset ", next.reset(pin, frame, half, full, false))
 }
 
-fn draw(panel: Panel, frame: &mut [u8], half: &[u8], full: &[u8])
-    requires { ⌜ Valid (stateOf panel) ⌝ }
-{
+fn draw(panel: Panel, frame: &mut [u8], half: &[u8], full: &[u8]) {
     let number = panel.draw(frame, half, full, false);
     print_count(b", draw ", number as usize);
+    print_count(b"; changed ", changed(frame));
 }
 
 // Every call in turn on one panel, each handing it to the next.
@@ -196,38 +125,27 @@ fn knock(panel: Panel, pin: Pin, frame: &mut [u8], half: &[u8], full: &[u8]) -> 
     let next = carry(panel, frame, half, full);
     let last = drop(next, pin, frame, half, full);
     draw(last, frame, half, full);
-    print_count(b"; changed ", changed(frame));
     last
-}
-
-fn then_read(panel: Panel)
-    requires { ⌜ Valid (stateOf panel) ⌝ }
-{
-    print_state(told(b"; then read ", transferred(panel, Transfer::Read)));
-}
-
-fn then_bit(panel: Panel)
-    requires { ⌜ Valid (stateOf panel) ⌝ }
-{
-    print_state(told(b"; then bit ", shifted(panel, false)));
 }
 
 // A parallel panel that has written half a word.
 fn on_parallel(frame: &mut [u8], half: &[u8], full: &[u8]) {
     print(b"  parallel: ");
-    then_read(knock(half_written(), Pin { parallel: true }, frame, half, full));
+    let last = knock(half_written(), Pin { parallel: true }, frame, half, full);
+    print_state(told(b"; then read ", transferred(last, Transfer::Read)));
 }
 
 // A serial panel that has heard all bits of a write but the last.
 fn on_serial(frame: &mut [u8], half: &[u8], full: &[u8]) {
     print(b"  serial: ");
-    then_bit(knock(
+    let last = knock(
         heard(0xFA20D000, 23),
         Pin { parallel: false },
         frame,
         half,
         full,
-    ));
+    );
+    print_state(told(b"; then bit ", shifted(last, false)));
 }
 
 fn print_lengths(n: usize, h: usize, f: usize) {
@@ -250,9 +168,7 @@ fn lent(n: usize, h: usize, f: usize)
     on_serial(&mut other[..n], &half[..h], &full[..f]);
 }
 
-fn main() {
-    reading(b"reading 3", b"\x00\x80\x01\x2D\x01\x37\x02\x00");
-    reading(b"reading 5", b"\x00\xBF\x01\x2D\x01\x37\x02\x00");
+pub(crate) fn refusals() {
     lent(1024, 2048, 0);
     lent(1024, 2048, 32);
     lent(1024, 2048, 267264);
@@ -263,6 +179,10 @@ fn main() {
     lent(1024, 0, 32);
     lent(1024, 2047, 32);
     lent(1024, 2049, 32);
+    wrong_full_fonts();
+}
+
+fn wrong_full_fonts() {
     lent(1024, 2048, 31);
     lent(1024, 2048, 33);
     lent(1024, 2048, 267263);

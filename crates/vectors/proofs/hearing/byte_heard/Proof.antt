@@ -1,7 +1,7 @@
 -- The number of bits left falls.
 use borrow.Author.Needs.{needs}
-use Rattle.hearing.proofs.byte_heard.Statement.{statement}
-use Rattle.hearing.proofs.byte_heard.Tie as tie
+use Rattle.vectors.proofs.hearing.byte_heard.Statement.{statement}
+use Rattle.vectors.proofs.hearing.byte_heard.Tie as tie
 
 abbrev Inv-loop : tie.InvT-loop
 Inv-loop byte next₀ rest₀ left₀ next rest left = Unit {0}
