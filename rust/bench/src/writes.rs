@@ -50,7 +50,7 @@ fn table() -> Option<()> {
             "| {name} | {} | {} | {:.2} |",
             plain.spread(),
             proved.spread(),
-            plain.middle() / proved.middle()
+            plain.over(&proved)
         );
     }
     println!("\n| proved, alone | ns |\n|---|---|");
