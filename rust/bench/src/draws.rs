@@ -14,7 +14,7 @@ pub fn measure(fonts: &Fonts, screens: &[(&str, Screen)]) {
         let [slow, bytes, blocks, proved] = in_turn(
             BATCHES,
             [
-                (20, &mut || {
+                (2, &mut || {
                     dots::draw(black_box(screen), fonts, true, black_box(by_dot))
                 }),
                 (400, &mut || {
@@ -48,7 +48,7 @@ pub fn measure(fonts: &Fonts, screens: &[(&str, Screen)]) {
             bytes.spread(),
             blocks.spread(),
             proved.spread(),
-            bytes.middle().min(blocks.middle()) / proved.middle()
+            bytes.over(&proved).min(blocks.over(&proved))
         );
     }
 }

@@ -4,6 +4,7 @@
 //!     bench draws|writes|replays|programs    only these
 //!     bench turns text|images|graphic       does a million turns of that and prints a number, as `timing` does
 //!     bench pictures FOLDER        holds the proved pictures to those stored in FOLDER, a line 'ok ..' each
+//!     bench screens FOLDER         stores the screens, each with its picture, and the fonts, as bytes alone
 //!     bench write-pictures FOLDER  stores the pictures that plain Rust draws dot by dot
 mod blocks;
 mod bytewise;
@@ -54,9 +55,10 @@ fn main() {
         ["replays"] => replays::measure(&fonts),
         ["programs"] => programs::measure(),
         ["pictures", folder] => passed = pictures::compare(folder, &fonts, &screens),
+        ["screens", folder] => passed = pictures::raw(folder, &fonts, &screens),
         ["write-pictures", folder] => passed = pictures::write(folder, &fonts, &screens),
         _ => {
-            eprintln!("usage: bench [draws | writes | replays | programs | turns WHAT | pictures FOLDER | write-pictures FOLDER]");
+            eprintln!("usage: bench [draws | writes | replays | programs | turns WHAT | screens FOLDER | pictures FOLDER | write-pictures FOLDER]");
             passed = false;
         }
     };

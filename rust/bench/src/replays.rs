@@ -1,5 +1,5 @@
 //! Records of one sort, many in a row, replayed over the boundary, and the parallel ones by plain Rust in place.
-use crate::in_place::{Panel, Transfer};
+use crate::in_place::{Answer, Panel, Transfer};
 use crate::screen::{Fonts, Random};
 use crate::timing::in_turn;
 use proved::{Lent, Memories};
@@ -96,9 +96,15 @@ fn sorts() -> Vec<Sort> {
     ]
 }
 
-/// The capture's parallel records in place; answers the records accepted.
-fn in_place(panel: &mut Panel, capture: &[u8], frame: &mut [u8], lent: Lent) -> usize {
+/// The capture's parallel records in place; answers how many were accepted, and the last one's answer.
+fn in_place(
+    panel: &mut Panel,
+    capture: &[u8],
+    frame: &mut [u8],
+    lent: Lent,
+) -> (u64, Option<Answer>) {
     let mut accepted = 0;
+    let mut last = None;
     for record in capture.as_chunks::<4>().0 {
         let given = match *record {
             [0xA5, 0x5A, 0, value] => Transfer::Instruct(value),
@@ -112,8 +118,9 @@ fn in_place(panel: &mut Panel, capture: &[u8], frame: &mut [u8], lent: Lent) -> 
             break;
         }
         accepted += 1;
+        last = Some(answer);
     }
-    accepted
+    (accepted, last)
 }
 
 /// Holds plain Rust in place to the proved code, so that what is timed does the same: random transfers, half bytes among them.
@@ -129,13 +136,14 @@ fn agree(fonts: &Fonts) {
         let lent = fonts.lent(turn % 2 == 1);
         let mut frames = [[0u8; 1024]; 2];
         let mut panel = Panel::fresh();
-        let accepted = in_place(&mut panel, &capture, &mut frames[0], lent);
+        let (accepted, last) = in_place(&mut panel, &capture, &mut frames[0], lent);
         let Ok(ended) = proved::replay(true, &capture, &mut frames[1], lent) else {
             panic!("refused");
         };
         let memories = Memories::of(&ended.state);
         assert!(
-            accepted as u64 == ended.place
+            accepted == ended.place
+                && last.is_some_and(|a| a.reply == ended.reply && a.count == ended.count as usize)
                 && frames[0] == frames[1]
                 && panel.screen.text == *memories.text
                 && panel.screen.glyph == *memories.glyph

@@ -4,12 +4,12 @@ use crate::in_place::{Panel, Transfer};
 
 const TIMES: u32 = 1_000_000;
 
-fn mixed(sum: u64, with: usize) -> u64 {
-    (sum % 1000003) * 31 % 1000003 + (with as u64) % 1000003
+fn mixed(sum: u32, with: usize) -> u32 {
+    (sum % 65536) * 31 + (with % 65536) as u32
 }
 
 fn letter(i: u32) -> Transfer {
-    Transfer::Write(0x21 + (i % 94) as u8)
+    Transfer::Write(0x21 + (i % 64) as u8)
 }
 
 fn text_turn(i: u32) -> Transfer {

@@ -40,13 +40,17 @@ fn table() -> Option<()> {
     println!("\nNanoseconds for a write with its repaint: the middle of {RUNS} runs of a million each, and from the 10th to the 90th in a hundred.\n");
     println!("| write, on lent memories | plain Rust in place | proved | plain Rust / proved |");
     println!("|---|---|---|---|");
-    for (name, what) in [("text", "text"), ("glyph", "images"), ("graphic", "graphic")] {
+    for (name, what) in [
+        ("text", "text"),
+        ("glyph", "images"),
+        ("graphic", "graphic"),
+    ] {
         let [plain, proved] = both(what)?;
         println!(
             "| {name} | {} | {} | {:.2} |",
             plain.spread(),
             proved.spread(),
-            plain.middle() / proved.middle()
+            plain.over(&proved)
         );
     }
     println!("\n| proved, alone | ns |\n|---|---|");
