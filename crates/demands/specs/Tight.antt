@@ -3,7 +3,7 @@
 -- that hand out a new reference, which docs/CONTRACTS.md lists. `leaves` and `means` are the two sides of the call's own `ensures`.
 use Prim.Native.Nat.{ℕ}
 use mathlib.Core.Bool.{Bool}
-use mathlib.Core.List.{List}
+use mathlib.Core.List.{List, []}
 use mathlib.Core.Path.{_≡_}
 use denote.Ref.{RefT}
 use Rattle.controller.specs.Memories.{Memories}
@@ -21,15 +21,13 @@ use Rattle.panel.specs.declared.Outcome as panel
 use Rattle.panel.specs.Handed.{stateOf, memoriesOf, handed}
 use Rattle.capture.specs.declared.Answer.{Answer}
 use Rattle.capture.specs.declared.Reader.{Reader}
-use Rattle.capture.specs.Record.{answer, number}
+use Rattle.capture.specs.Record.{readFirst, number}
 use Rattle.capture.specs.declared.Step.{Step}
 use Rattle.capture.specs.Capture.{stepAt}
 use Rattle.capture.specs.Reader as reader
 use Rattle.playback.specs.declared.Stop.{Stop}
-use Rattle.playback.specs.declared.Told.{Told}
 use Rattle.printed.specs.Text as lines
-use Rattle.playback.specs.Transcript.{Transcribed, transcribed, tells}
-use Rattle.playback.specs.Replay.{Stopped, stopped, stopsAt, endless, replayed}
+use Rattle.playback.specs.Transcript.{Told, replayedSilently, transcribed, leftBy}
 use Rattle.state_bytes.specs.Packed.{unpacked}
 use Rattle.boundary.specs.Report.{Report, report, freshReplay}
 use Rattle.frame_view.specs.Braille as brailleOf
@@ -114,12 +112,12 @@ pub record Transcribing : Type 0 where
   pub text : List ℕ
 
 pub record LeftTold : Type 0 where
-  pub told : Told
+  pub stop : Stop
   pub frame : List ℕ
   pub text : List ℕ
 
 -- what `put_last` is given
-pub record Ending : Type 0 where
+pub record PuttingLast : Type 0 where
   pub buffer : List ℕ
   pub place : ℕ
   pub number : ℕ
@@ -184,35 +182,35 @@ contractOf send =
       leaves = λ x. sender.leaving (x .result) (x .buffer);
       means = λ i. sent (i .register) (i .byte) (i .buffer);
     }
-contractOf read = record { Input = List ℕ; Outcome = Answer; Left = Answer; leaves = λ r. r; means = answer }
+contractOf read = record { Input = List ℕ; Outcome = Answer; Left = Answer; leaves = λ r. r; means = readFirst }
 contractOf recordAt =
     record { Input = At (List ℕ); Outcome = Step; Left = Step; leaves = λ r. r; means = λ i. stepAt (i .capture) (i .at) }
 contractOf answerNumber = record { Input = Answer; Outcome = ℕ; Left = ℕ; leaves = λ r. r; means = number }
-contractOf readerStep = record { Input = Reader; Outcome = Step; Left = Step; leaves = λ r. r; means = reader.stepped }
+contractOf readerStep = record { Input = Reader; Outcome = Step; Left = Step; leaves = λ r. r; means = reader.readerStep }
 contractOf readerOver =
     record { Input = At (RefT (List ℕ)); Outcome = Reader; Left = Reader; leaves = λ r. r; means = λ i. reader.over (i .capture) (i .at) }
 contractOf replay =
     record {
       Input = Replaying Panel;
       Outcome = With Stop;
-      Left = Stopped;
-      leaves = λ x. stopsAt (x .result) (x .buffer);
-      means = λ i. stopped (replayed (i .seen) endless (i .capture) (stateOf (i .state)) (i .frame) 0);
+      Left = Told;
+      leaves = λ x. leftBy (x .result) (x .buffer) [];
+      means = λ i. replayedSilently (i .seen) (i .capture) (stateOf (i .state)) (i .frame);
     }
 contractOf transcribe =
     record {
       Input = Transcribing;
       Outcome = LeftTold;
-      Left = Transcribed;
-      leaves = λ x. tells (x .told) (x .frame) (x .text);
+      Left = Told;
+      leaves = λ x. leftBy (x .stop) (x .frame) (x .text);
       means = λ i. transcribed (i .seen) (i .capture) (stateOf (i .state)) (i .frame) (i .place) (i .text);
     }
 contractOf putLast =
     record {
-      Input = Ending;
+      Input = PuttingLast;
       Outcome = With ℕ;
       Left = lines.Begun;
-      leaves = λ x. lines.leaves (x .result) (x .buffer);
+      leaves = λ x. lines.begunAs (x .result) (x .buffer);
       means = λ i. lines.begunWith (i .buffer) (lines.lastLine (i .place) (i .number));
     }
 contractOf exportedDraw =
