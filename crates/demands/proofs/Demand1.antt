@@ -1,6 +1,6 @@
 -- Demand 1, from its parts.
 use Rattle.playback.proofs.Endless.{not-full}
-use Rattle.playback.proofs.Parts.{parts-replay-as-whole}
+use Rattle.playback.proofs.Parts.{parts-replay-as-whole, parts-transcribe-as-whole}
 use Rattle.playback.proofs.Roomy.{room-tells-all}
 use Rattle.demands.specs.Demand1.{Demand1}
 use Rattle.demands.proofs.Tables.{table-once, send-refuses, send-once, record-says, record-once}
@@ -17,6 +17,7 @@ demand-1 =
       replays = replay-stops;
       neverFull = not-full;
       parts = parts-replay-as-whole;
+      transcribedParts = parts-transcribe-as-whole;
       transcripts = transcript-refuses;
       tells = transcript-tells;
       tellsAll = room-tells-all;

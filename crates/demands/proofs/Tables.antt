@@ -15,7 +15,10 @@ use Rattle.links.specs.Sender.{sent}
 use Rattle.picture.specs.Picture.{Seen}
 use Rattle.picture.specs.Refusals.{refusalOf}
 use Rattle.capture.specs.declared.Answer.{Answer}
+use Rattle.capture.specs.Kinds.{kindOf}
+use Rattle.capture.specs.Kinds as kinds
 use Rattle.capture.specs.Record as records
+use Rattle.capture.proofs.ByKind.{by-kind}
 use Rattle.demands.specs.Demand1.{GoodFullFont, TableSays, frameLength, halfFontLength, fullFontLength, otherLink, allGood, OneNumber, OneAnswer}
 use Rattle.demands.specs.Demand1 as demands
 use Rattle.demands.specs.Demand1.{SenderSays, SendRefuses, Marked, Allowed, RecordSays}
@@ -82,22 +85,24 @@ send-once buffer m n (demands.roomEnough a) (demands.bufferLength b) = absurd (o
 send-once buffer m n (demands.roomEnough a) (demands.roomEnough b) = refl
 
 -- the values that a kind takes, as a test and in words
-allowed-is : (kind value : ℕ) → records.allowed kind value ≡ true → Allowed kind value
+allowed-is : (kind value : ℕ) → kinds.allowed (kindOf kind) value ≡ true → Allowed kind value
+unfolding kindOf
 allowed-is kind value h =
     record {
-      statusRead = λ k. eqb-true value 0 (subst (λ (n : ℕ). records.allowed n value ≡ true) k h);
-      dataRead = λ k. eqb-true value 0 (subst (λ (n : ℕ). records.allowed n value ≡ true) k h);
-      selectLow = λ k. eqb-true value 0 (subst (λ (n : ℕ). records.allowed n value ≡ true) k h);
-      reset = λ k. leb-true value 1 (subst (λ (n : ℕ). records.allowed n value ≡ true) k h);
+      statusRead = λ k. eqb-true value 0 (subst (λ (n : ℕ). kinds.allowed (kindOf n) value ≡ true) k h);
+      dataRead = λ k. eqb-true value 0 (subst (λ (n : ℕ). kinds.allowed (kindOf n) value ≡ true) k h);
+      selectLow = λ k. eqb-true value 0 (subst (λ (n : ℕ). kinds.allowed (kindOf n) value ≡ true) k h);
+      reset = λ k. leb-true value 1 (subst (λ (n : ℕ). kinds.allowed (kindOf n) value ≡ true) k h);
     }
 
-is-allowed : (kind value : ℕ) → Allowed kind value → records.allowed kind value ≡ true
-is-allowed kind value a =
-    by-test (eqb kind 2) (λ t. rw (t, eq-eqb value 0 (a .statusRead (eqb-true kind 2 t))))
-    (λ f2. by-test (eqb kind 3) (λ t. rw (f2, t, eq-eqb value 0 (a .dataRead (eqb-true kind 3 t))))
-    (λ f3. by-test (eqb kind 5) (λ t. rw (f2, f3, t, eq-eqb value 0 (a .selectLow (eqb-true kind 5 t))))
-    (λ f5. by-test (eqb kind 6) (λ t. rw (f2, f3, f5, t, le-leb value 1 (a .reset (eqb-true kind 6 t))))
-    (λ f6. rw (f2, f3, f5, f6)))))
+is-allowed : (kind value : ℕ) → kind ≤ 6 → Allowed kind value → kinds.allowed (kindOf kind) value ≡ true
+is-allowed kind value few a =
+    by-kind (λ (k : kinds.Kind). kinds.allowed k value ≡ true) kind (λ k. refl) (λ k. refl)
+    (λ k. eq-eqb value 0 (a .statusRead k))
+    (λ k. eq-eqb value 0 (a .dataRead k))
+    (λ k. refl)
+    (λ k. eq-eqb value 0 (a .selectLow k))
+    (λ k. le-leb value 1 (a .reset (omega arith)))
 
 module _ (c : List ℕ) where
   is-marked : Marked c → records.marked (getD c 0 0) (getD c 1 0) ≡ true
@@ -111,8 +116,8 @@ module _ (c : List ℕ) where
   abbrev Answers : Answer → Type 0
   Answers a = RecordSays c a (records.number a)
 
-  pub record-says : Answers (records.answer c)
-  unfolding records.answer
+  pub record-says : Answers (records.readFirst c)
+  unfolding records.readFirst
   record-says =
       either-told Answers (eqb (length c) 0) (λ t. demands.end (eqb-true (length c) 0 t))
       (λ f. let some = eqb-false (length c) 0 f in
@@ -121,17 +126,17 @@ module _ (c : List ℕ) where
       either-told Answers (not (records.marked (getD c 0 0) (getD c 1 0)))
       (λ t. demands.mark four (λ m. true≢false (sym (is-marked m) ∙ not-true (records.marked (getD c 0 0) (getD c 1 0)) t)))
       (λ f. let m = marked-is (not-false (records.marked (getD c 0 0) (getD c 1 0)) f) in
-      either-told Answers (not (records.known (records.kindOf c)))
-      (λ t. demands.kind four m (leb-false (records.kindOf c) 6 (not-true (records.known (records.kindOf c)) t)))
-      (λ f. let k = leb-true (records.kindOf c) 6 (not-false (records.known (records.kindOf c)) f) in
-      either-told Answers (not (records.allowed (records.kindOf c) (records.valueOf c)))
+      either-told Answers (not (kinds.known (records.kindByte c)))
+      (λ t. demands.kind four m (leb-false (records.kindByte c) 6 (not-true (kinds.known (records.kindByte c)) t)))
+      (λ f. let k = leb-true (records.kindByte c) 6 (not-false (kinds.known (records.kindByte c)) f) in
+      either-told Answers (not (kinds.allowed (kindOf (records.kindByte c)) (records.valueByte c)))
       (λ t. demands.value four m k
-      (λ a. true≢false (sym (is-allowed (records.kindOf c) (records.valueOf c) a) ∙ not-true (records.allowed (records.kindOf c) (records.valueOf c)) t)))
+      (λ a. true≢false (sym (is-allowed (records.kindByte c) (records.valueByte c) k a) ∙ not-true (kinds.allowed (kindOf (records.kindByte c)) (records.valueByte c)) t)))
       (λ f. demands.good four m k
-      (allowed-is (records.kindOf c) (records.valueOf c) (not-false (records.allowed (records.kindOf c) (records.valueOf c)) f)))))))
+      (allowed-is (records.kindByte c) (records.valueByte c) (not-false (kinds.allowed (kindOf (records.kindByte c)) (records.valueByte c)) f)))))))
 
-  record-answer : (a : Answer) (n : ℕ) → RecordSays c a n → a ≡ records.answer c
-  unfolding records.answer
+  record-answer : (a : Answer) (n : ℕ) → RecordSays c a n → a ≡ records.readFirst c
+  unfolding records.readFirst
   record-answer a n (demands.remain l b) = rw (ne-eqb (length c) 0 (λ z. omega arith), le-leb (length c) 3 b)
   record-answer a n (demands.mark l g) =
       rw (
@@ -140,14 +145,14 @@ module _ (c : List ℕ) where
         never (records.marked (getD c 0 0) (getD c 1 0)) (λ t. g (marked-is t)),
       )
   record-answer a n (demands.kind l m k) =
-      rw (ne-eqb (length c) 0 (λ z. omega arith), lt-leb (length c) 3 l, is-marked m, lt-leb (records.kindOf c) 6 k)
+      rw (ne-eqb (length c) 0 (λ z. omega arith), lt-leb (length c) 3 l, is-marked m, lt-leb (records.kindByte c) 6 k)
   record-answer a n (demands.value l m k g) =
       rw (
         ne-eqb (length c) 0 (λ z. omega arith),
         lt-leb (length c) 3 l,
         is-marked m,
-        le-leb (records.kindOf c) 6 k,
-        never (records.allowed (records.kindOf c) (records.valueOf c)) (λ t. g (allowed-is (records.kindOf c) (records.valueOf c) t)),
+        le-leb (records.kindByte c) 6 k,
+        never (kinds.allowed (kindOf (records.kindByte c)) (records.valueByte c)) (λ t. g (allowed-is (records.kindByte c) (records.valueByte c) t)),
       )
   record-answer a n (demands.end z) = rw (eq-eqb (length c) 0 z)
   record-answer a n (demands.good l m k v) =
@@ -155,8 +160,8 @@ module _ (c : List ℕ) where
         ne-eqb (length c) 0 (λ z. omega arith),
         lt-leb (length c) 3 l,
         is-marked m,
-        le-leb (records.kindOf c) 6 k,
-        is-allowed (records.kindOf c) (records.valueOf c) v,
+        le-leb (records.kindByte c) 6 k,
+        is-allowed (records.kindByte c) (records.valueByte c) k v,
       )
 
   record-number : (a : Answer) (n : ℕ) → RecordSays c a n → n ≡ records.number a

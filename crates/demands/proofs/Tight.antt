@@ -2,6 +2,8 @@
 use mathlib.Core.Path.{_≡_, refl, ap, sym, _∙_}
 use Rattle.calls.specs.State.{State}
 use Rattle.panel.specs.declared.Panel.{Panel}
+use Rattle.playback.specs.declared.Stop.{Stop}
+use Rattle.playback.specs.Transcript.{Told}
 use Rattle.demands.specs.Tight.{Contract, Tight, PublicCall, contractOf, fresh, call, draw, lentCall, send, read, recordAt, answerNumber, readerOver, readerStep}
 use Rattle.demands.specs.Tight.{replay, transcribe, putLast, exportedDraw, exportedSend, exportedReplay, braille, plain, pbm}
 
@@ -9,6 +11,19 @@ use Rattle.demands.specs.Tight.{replay, transcribe, putLast, exportedDra
 abbrev panelOf : State → Panel
 panelOf s =
     record { text = s .memories .text; glyph = s .memories .glyph; graphic = s .memories .graphic; control = s .control; link = s .link }
+
+-- and the answer of a replay
+abbrev stopOf : Told → Stop
+stopOf k =
+    record {
+      panel = panelOf (k .ending .state);
+      place = k .ending .place;
+      number = k .ending .number;
+      full = k .ending .full;
+      reply = k .reply;
+      count = k .count;
+      filled = k .filled;
+    }
 
 tight-by : (k : Contract) (back : k .Left → k .Outcome) → ((x : k .Outcome) → back (k .leaves x) ≡ x) → Tight k
 tight-by k back gives i x y p q = sym (gives x) ∙ ap back (p ∙ sym q) ∙ gives y
@@ -42,27 +57,9 @@ tight recordAt = tight-by (contractOf recordAt) (λ x. x) (λ x. refl)
 tight answerNumber = tight-by (contractOf answerNumber) (λ x. x) (λ x. refl)
 tight readerOver = tight-by (contractOf readerOver) (λ x. x) (λ x. refl)
 tight readerStep = tight-by (contractOf readerStep) (λ x. x) (λ x. refl)
-tight replay =
-    tight-by (contractOf replay)
-    (λ k. record {
-      result = record {
-        panel = panelOf (k .ending .state);
-        place = k .ending .place;
-        number = k .ending .number;
-        reply = k .reply;
-        count = k .count;
-      };
-      buffer = k .ending .frame;
-    })
-    (λ x. refl)
+tight replay = tight-by (contractOf replay) (λ k. record { result = stopOf k; buffer = k .ending .frame }) (λ x. refl)
 tight transcribe =
-    tight-by (contractOf transcribe)
-    (λ k. record {
-      told = record { panel = panelOf (k .ending .state); place = k .ending .place; number = k .ending .number; filled = k .filled; full = k .ending .full };
-      frame = k .ending .frame;
-      text = k .text;
-    })
-    (λ x. refl)
+    tight-by (contractOf transcribe) (λ k. record { stop = stopOf k; frame = k .ending .frame; text = k .text }) (λ x. refl)
 tight putLast = tight-by (contractOf putLast) (λ k. record { result = k .filled; buffer = k .buffer }) (λ x. refl)
 tight exportedDraw = tight-by (contractOf exportedDraw) (λ d. record { result = d .number; buffer = d .frame }) (λ x. refl)
 tight exportedSend = tight-by (contractOf exportedSend) (λ d. record { result = d .number; buffer = d .buffer }) (λ x. refl)

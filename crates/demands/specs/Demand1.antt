@@ -1,7 +1,7 @@
 -- Demand 1. "The connector can carry anything at all, and so can a capture. Each public call refuses bad input itself, with the number
 -- in document 01, and a refused call or capture record leaves the panel state and each lent buffer as they were."
 -- Proved in proofs/, as `demand-1`.
-use Prim.Native.Nat.{ℕ, _+_, _≤_, _<_, _%_}
+use Prim.Native.Nat.{ℕ, _+_, _-_, _^_, _≤_, _<_, _%_}
 use mathlib.Core.Bool.{Bool, true, false, not}
 use mathlib.Core.List.{List, [], _∷_}
 use mathlib.Core.Logic.{_≢_}
@@ -21,11 +21,12 @@ use Rattle.calls.specs.Calls.{called, refused, afterCalls}
 use Rattle.demands.specs.Wires.{numbersOf}
 use Rattle.capture.specs.declared.Answer.{Answer}
 use Rattle.capture.specs.declared.Answer.the-variants.{Record, Short, WrongMark, WrongKind, WrongValue, End}
-use Rattle.capture.specs.Record.{kindOf, valueOf, answer, number}
+use Rattle.capture.specs.Record.{kindByte, valueByte, readFirst, number}
 use Rattle.capture.specs.Capture.{Recorded, contents}
+use Rattle.printed.specs.Text.{RecordAnswer, lines, longestLine}
 use Rattle.playback.specs.Replay.{endingAt, Replayed, Room, endless, bytes, replayed}
-use Rattle.playback.specs.Transcript.{withLines, transcribed}
-use Rattle.playback.specs.Statements.{PartsReplayAsWhole, RoomTellsAll}
+use Rattle.playback.specs.Transcript.{told, transcribed}
+use Rattle.playback.specs.Statements.{PartsReplayAsWhole, PartsTranscribeAsWhole, RoomTellsAll}
 use Rattle.boundary.specs.Report.{report, freshReplay}
 use Rattle.demands.specs.Captures.{callsOf, callsOfAll, answersOf}
 
@@ -96,10 +97,10 @@ pub record Allowed (kind value : ℕ) : Type 0 where
 pub data RecordSays (c : List ℕ) : Answer → ℕ → Type 0 where
   remain : 1 ≤ length c → length c ≤ 3 → RecordSays c Short 6
   mark : 4 ≤ length c → (Marked c → ⊥) → RecordSays c WrongMark 7
-  kind : 4 ≤ length c → Marked c → 6 < kindOf c → RecordSays c WrongKind 8
-  value : 4 ≤ length c → Marked c → kindOf c ≤ 6 → (Allowed (kindOf c) (valueOf c) → ⊥) → RecordSays c WrongValue 9
+  kind : 4 ≤ length c → Marked c → 6 < kindByte c → RecordSays c WrongKind 8
+  value : 4 ≤ length c → Marked c → kindByte c ≤ 6 → (Allowed (kindByte c) (valueByte c) → ⊥) → RecordSays c WrongValue 9
   end : length c ≡ 0 → RecordSays c End 0
-  good : 4 ≤ length c → Marked c → kindOf c ≤ 6 → Allowed (kindOf c) (valueOf c) → RecordSays c (Record (kindOf c) (valueOf c)) 0
+  good : 4 ≤ length c → Marked c → kindByte c ≤ 6 → Allowed (kindByte c) (valueByte c) → RecordSays c (Record (kindByte c) (valueByte c)) 0
 
 -- "when, and only then": a table gives one number alone
 abbrev pub OneNumber : (ℕ → Type 0) → Type 0
@@ -109,32 +110,42 @@ OneNumber Says = (m n : ℕ) → Says m → Says n → m ≡ n
 abbrev pub OneAnswer : (Answer → ℕ → Type 0) → Type 0
 OneAnswer Says = (a b : Answer) (m n : ℕ) → Says a m → Says b n → (a ≡ b) × (m ≡ n)
 
--- where a replay stops after so many records, in a state with this link: at what stands behind the last one, with its number; at a
+-- one more record might not be told: the longest line that it could have has no room behind the lines before it, or there are as many
+-- records as 64 bits can count
+pub data NoRoom (room : Room) (place : ℕ) (answers : List RecordAnswer) : Type 0 where
+  lineTooLong : (size : ℕ)
+      → room ≡ bytes size
+      → size < length (lines place answers) + longestLine (place + length answers)
+      → NoRoom room place answers
+  uncounted : (size : ℕ) → room ≡ bytes size → 2 ^ 64 - 1 ≤ place + length answers → NoRoom room place answers
+
+-- where a replay stops behind these answers, in a state with this link: at what stands behind the last record, with its number; at a
 -- record of the other link, with 5; or, where it writes lines, at a record whose line might have no room
-pub data StopsAt (rs : List Recorded) (behind place number : ℕ) (full : Bool) (link : Link) : Type 0 where
-  behindAll : place ≡ length rs → number ≡ behind → full ≡ false → StopsAt rs behind place number full link
+pub data StopsAt (rs : List Recorded) (behind : ℕ) (room : Room) (place : ℕ) (answers : List RecordAnswer) (number : ℕ) (full : Bool) (link : Link) : Type 0 where
+  behindAll : length answers ≡ length rs → number ≡ behind → full ≡ false → StopsAt rs behind room place answers number full link
   atRecord : (r : Recorded) (more : List Recorded)
-      → drop place rs ≡ r ∷ more
-      → firstOfOtherLink link (callsOf (r .kind) (r .value)) ≡ true
+      → drop (length answers) rs ≡ r ∷ more
+      → firstOfOtherLink link (callsOf r) ≡ true
       → number ≡ 5
       → full ≡ false
-      → StopsAt rs behind place number full link
+      → StopsAt rs behind room place answers number full link
   noRoom : (r : Recorded) (more : List Recorded)
-      → drop place rs ≡ r ∷ more
+      → drop (length answers) rs ≡ r ∷ more
+      → NoRoom room place answers
       → number ≡ 0
       → full ≡ true
-      → StopsAt rs behind place number full link
+      → StopsAt rs behind room place answers number full link
 
 -- a replay, with or without lines, from a number of accepted records on: the records before the one at which it stops stand, and that
 -- one has no effect
-pub record ReplayStops (e : Seen) (capture : List ℕ) (s : State) (frame : List ℕ) (place : ℕ) (r : Replayed) : Type 0 where
+pub record ReplayStops (e : Seen) (room : Room) (capture : List ℕ) (s : State) (frame : List ℕ) (place : ℕ) (r : Replayed) : Type 0 where
   -- refused as a call before anything is read: nothing changes, and nothing is answered
   pub refused : (n : ℕ) → TableSays e frame false n → n ≢ 0 → r ≡ record { answers = []; ending = endingAt s frame place n }
   -- else it stops at the first record that is refused, or behind the last; each record before that has answered
   pub counts : r .ending .place ≡ place + length (r .answers)
   pub stops :
       TableSays e frame false 0
-      → StopsAt (contents capture .records) (number (contents capture .stop)) (length (r .answers)) (r .ending .number) (r .ending .full) (r .ending .state .link)
+      → StopsAt (contents capture .records) (number (contents capture .stop)) room place (r .answers) (r .ending .number) (r .ending .full) (r .ending .state .link)
   -- every call of these records is accepted
   pub accepted :
       TableSays e frame false 0
@@ -155,7 +166,7 @@ pub record ReplayStops (e : Seen) (capture : List ℕ) (s : State) (frame : List
 abbrev pub TranscriptTells : Type 0
 TranscriptTells =
     (e : Seen) (capture : List ℕ) (s : State) (frame : List ℕ) (place : ℕ) (text : List ℕ)
-    → transcribed e capture s frame place text ≡ withLines place text (replayed e (bytes (length text)) capture s frame place)
+    → transcribed e capture s frame place text ≡ told true place text (replayed e (bytes (length text)) capture s frame place)
 
 -- without lines, want of room never stops a replay
 abbrev pub NeverFull : Type 0
@@ -168,7 +179,7 @@ TranscriptRefuses =
     (e : Seen) (capture : List ℕ) (s : State) (frame : List ℕ) (place : ℕ) (text : List ℕ) (n : ℕ)
     → TableSays e frame false n
     → n ≢ 0
-    → transcribed e capture s frame place text ≡ record { ending = endingAt s frame place n; text = text; filled = 0 }
+    → transcribed e capture s frame place text ≡ record { ending = endingAt s frame place n; reply = 0; count = 0; text = text; filled = 0 }
 
 abbrev pub ExportedReplayRefuses : Type 0
 ExportedReplayRefuses =
@@ -181,14 +192,15 @@ pub record Demand1 : Type 0 where
   pub calls : (e : Seen) (s : State) (frame : List ℕ) (call : Event) → CallRefuses e s frame call
   pub draws : (e : Seen) (m : Memories) (c : Control) (frame : List ℕ) → DrawRefuses e m c frame
   pub sends : (register : Bool) (byte : ℕ) (buffer : List ℕ) → SendRefuses register byte buffer
-  pub captures : (c : List ℕ) → RecordSays c (answer c) (number (answer c))
+  pub captures : (c : List ℕ) → RecordSays c (readFirst c) (number (readFirst c))
   -- of every replay, and so of `replay` and of `transcribe`
   pub replays :
       (e : Seen) (room : Room) (capture : List ℕ) (s : State) (frame : List ℕ) (place : ℕ)
-      → ReplayStops e capture s frame place (replayed e room capture s frame place)
+      → ReplayStops e room capture s frame place (replayed e room capture s frame place)
   pub neverFull : NeverFull
-  -- a capture may be replayed in parts of whole records
+  -- a capture may be replayed, and transcribed, in parts of whole records
   pub parts : PartsReplayAsWhole
+  pub transcribedParts : PartsTranscribeAsWhole
   pub transcripts : TranscriptRefuses
   pub tells : TranscriptTells
   -- and 29 bytes for each record are room enough for all of it

@@ -3,7 +3,7 @@
 -- that hand out a new reference, which docs/CONTRACTS.md lists. `leaves` and `means` are the two sides of the call's own `ensures`.
 use Prim.Native.Nat.{ℕ}
 use mathlib.Core.Bool.{Bool}
-use mathlib.Core.List.{List}
+use mathlib.Core.List.{List, []}
 use mathlib.Core.Path.{_≡_}
 use denote.Ref.{RefT}
 use Rattle.controller.specs.Memories.{Memories}
@@ -22,15 +22,13 @@ use Rattle.panel.specs.declared.Outcome as panel
 use Rattle.panel.specs.Handed.{stateOf, memoriesOf, handed}
 use Rattle.capture.specs.declared.Answer.{Answer}
 use Rattle.capture.specs.declared.Reader.{Reader}
-use Rattle.capture.specs.Record.{answer, number}
+use Rattle.capture.specs.Record.{readFirst, number}
 use Rattle.capture.specs.declared.Step.{Step}
 use Rattle.capture.specs.Capture.{stepAt}
 use Rattle.capture.specs.Reader as reader
 use Rattle.playback.specs.declared.Stop.{Stop}
-use Rattle.playback.specs.declared.Told.{Told}
 use Rattle.printed.specs.Text as lines
-use Rattle.playback.specs.Transcript.{Transcribed, transcribed, tells}
-use Rattle.playback.specs.Replay.{Stopped, stopped, stopsAt, endless, replayed}
+use Rattle.playback.specs.Transcript.{Told, replayedSilently, transcribed, leftBy}
 use Rattle.state_bytes.specs.Packed.{unpacked}
 use Rattle.boundary.specs.Report.{Report, report, freshReplay}
 use Rattle.frame_view.specs.Braille as brailleOf
@@ -130,7 +128,7 @@ pub record Transcribing : Type 0 where
   pub text : List ℕ
 
 pub record LeftTold : Type 0 where
-  pub told : Told
+  pub stop : Stop
   pub frame : List ℕ
   pub text : List ℕ
 
@@ -193,25 +191,25 @@ contractOf lentCall =
       means = λ i. called (i .seen) (i .state) (i .frame) (i .call);
     }
 contractOf send = sends
-contractOf read = answering answer
+contractOf read = answering readFirst
 contractOf recordAt = answering (λ (i : At (List ℕ)). stepAt (i .capture) (i .at))
 contractOf answerNumber = answering number
-contractOf readerStep = answering reader.stepped
+contractOf readerStep = answering reader.readerStep
 contractOf readerOver = answering (λ (i : At (RefT (List ℕ))). reader.over (i .capture) (i .at))
 contractOf replay =
     record {
       Input = Replaying Panel;
       Outcome = With Stop;
-      Left = Stopped;
-      leaves = λ x. stopsAt (x .result) (x .buffer);
-      means = λ i. stopped (replayed (i .seen) endless (i .capture) (stateOf (i .state)) (i .frame) 0);
+      Left = Told;
+      leaves = λ x. leftBy (x .result) (x .buffer) [];
+      means = λ i. replayedSilently (i .seen) (i .capture) (stateOf (i .state)) (i .frame);
     }
 contractOf transcribe =
     record {
       Input = Transcribing;
       Outcome = LeftTold;
-      Left = Transcribed;
-      leaves = λ x. tells (x .told) (x .frame) (x .text);
+      Left = Told;
+      leaves = λ x. leftBy (x .stop) (x .frame) (x .text);
       means = λ i. transcribed (i .seen) (i .capture) (stateOf (i .state)) (i .frame) (i .place) (i .text);
     }
 contractOf putLast =
@@ -219,7 +217,7 @@ contractOf putLast =
       Input = LastLine;
       Outcome = With ℕ;
       Left = lines.Begun;
-      leaves = λ x. lines.leaves (x .result) (x .buffer);
+      leaves = λ x. lines.begunAs (x .result) (x .buffer);
       means = λ i. lines.begunWith (i .buffer) (lines.lastLine (i .place) (i .number));
     }
 contractOf exportedDraw =

@@ -1,6 +1,6 @@
 -- Document 01, "Captures": replay goes on until the first refusal, and answers with the place where it stopped.
 use Prim.Native.Nat.{ℕ, _+_, _-_}
-use mathlib.Core.Bool.{Bool, true, false, not}
+use mathlib.Core.Bool.{Bool, true, false, not, _&&_}
 use mathlib.Core.List.{List, [], _∷_}
 use lib.ListN.{length}
 use lib.Dec.{eqb}
@@ -25,6 +25,10 @@ pub record Ending : Type 0 where
 
 abbrev pub endingAt : State → List ℕ → ℕ → ℕ → Ending
 endingAt s frame place number = record { state = s; frame = frame; place = place; number = number; full = false }
+
+-- whether it came to the end of its capture
+abbrev pub ended : Ending → Bool
+ended x = eqb (x .number) 0 && not (x .full)
 
 -- a replay: the answers of its accepted records, and where it stops
 pub record Replayed : Type 0 where

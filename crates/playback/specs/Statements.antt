@@ -1,10 +1,10 @@
 -- Document 01, "Captures": what holds of records, replays and their lines.
 -- Each statement is proved in proofs/, under its own name in small letters (`EightBitsCountOnce` as `eight-bits-count-once`).
 use Prim.Native.Nat.{ℕ, _+_, _*_, _%_, _^_, _≤_, _<_}
+use mathlib.Core.Bool.{true, false}
 use mathlib.Core.List.{List, [], _∷_, _++_}
 use mathlib.Core.Path.{_≡_}
-use lib.Dec.{eqb}
-use lib.ListN.{length, replicate}
+use lib.ListN.{length, replicate, take, drop}
 use Rattle.base.specs.Choice.{if_then_else_}
 use Rattle.picture.specs.Picture.{Seen}
 use Rattle.calls.specs.State.{State}
@@ -13,8 +13,9 @@ use Rattle.calls.specs.Calls.{Called, called}
 use Rattle.capture.specs.Capture.{contents}
 use Rattle.capture.specs.Kinds.{eightBits}
 use Rattle.playback.specs.Records.{asks, calledInTurn}
-use Rattle.printed.specs.Text.{RecordAnswer}
-use Rattle.playback.specs.Replay.{Replayed, endless, bytes, replayed}
+use Rattle.printed.specs.Text.{RecordAnswer, lines}
+use Rattle.playback.specs.Replay.{Replayed, Room, endless, bytes, roomBehind, ended, replayed}
+use Rattle.playback.specs.Transcript.{Told, transcribed}
 
 -- the counts of calls in turn
 unfoldable pub countsInTurn : Seen → State → List ℕ → List Event → List ℕ
@@ -40,20 +41,42 @@ EightBitsCountOnce =
 abbrev pub afterAnswers : List RecordAnswer → Replayed → Replayed
 afterAnswers before r = record { answers = before ++ r .answers; ending = r .ending }
 
--- a replay that came to the end of its capture goes on with more of it, from where it stands; one that was refused stays
-abbrev pub goneOn : Seen → List ℕ → Replayed → Replayed
-goneOn e more r =
-    if eqb (r .ending .number) 0 then afterAnswers (r .answers) (replayed e endless more (r .ending .state) (r .ending .frame) (r .ending .place))
+-- a replay that came to the end of its capture goes on with more of it, from where it stands, with the room that its lines left; one that
+-- was refused, or had no room, stays
+abbrev pub goneOn : Seen → Room → ℕ → List ℕ → Replayed → Replayed
+goneOn e room place more r =
+    if ended (r .ending) then
+    afterAnswers (r .answers)
+    (replayed e (roomBehind room (lines place (r .answers))) more (r .ending .state) (r .ending .frame) (r .ending .place))
     else r
 
 -- 2. A capture may be replayed in parts, where the earlier part has whole records.
 abbrev pub PartsReplayAsWhole : Type 0
 PartsReplayAsWhole =
-    (e : Seen) (part more : List ℕ) (s : State) (frame : List ℕ) (place : ℕ)
+    (e : Seen) (room : Room) (part more : List ℕ) (s : State) (frame : List ℕ) (place : ℕ)
     → length part % 4 ≡ 0
-    → replayed e endless (part ++ more) s frame place ≡ goneOn e more (replayed e endless part s frame place)
+    → replayed e room (part ++ more) s frame place ≡ goneOn e room place more (replayed e room part s frame place)
 
--- 3. With 29 bytes for each record, the longest line that there is, all of the replay is told.
+-- two transcripts as one: the second goes on from the first one's place, in the rest of its buffer
+pub record Joins (first second whole : Told) : Type 0 where
+  pub ending : whole .ending ≡ second .ending
+  pub text : whole .text ≡ take (first .filled) (first .text) ++ second .text
+  pub filled : whole .filled ≡ first .filled + second .filled
+
+-- 3. And so may it be transcribed: a transcript that came to its end goes on with more, one that stopped is the whole.
+pub record TranscribesAsWhole (e : Seen) (more : List ℕ) (first whole : Told) : Type 0 where
+  pub goes :
+      ended (first .ending) ≡ true
+      → Joins first (transcribed e more (first .ending .state) (first .ending .frame) (first .ending .place) (drop (first .filled) (first .text))) whole
+  pub stays : ended (first .ending) ≡ false → whole ≡ first
+
+abbrev pub PartsTranscribeAsWhole : Type 0
+PartsTranscribeAsWhole =
+    (e : Seen) (part more : List ℕ) (s : State) (frame : List ℕ) (place : ℕ) (text : List ℕ)
+    → length part % 4 ≡ 0
+    → TranscribesAsWhole e more (transcribed e part s frame place text) (transcribed e (part ++ more) s frame place text)
+
+-- 4. With 29 bytes for each record, the longest line that there is, all of the replay is told.
 abbrev pub RoomTellsAll : Type 0
 RoomTellsAll =
     (e : Seen) (room : ℕ) (capture : List ℕ) (s : State) (frame : List ℕ) (place : ℕ)
