@@ -24,7 +24,7 @@ use Rattle.links.specs.Halves.{bits7-4, writing, acts, paired}
 use Rattle.links.specs.Serial.{Listened, listened}
 use Rattle.links.specs.Sender.{threeBytes}
 use Rattle.links.specs.Taken.{byWidth, takenBy, deedOf}
-use Rattle.links.specs.Items.{WholeWrite, Item, write, besideWires, Way, wholeBytes, halves, serial, above, bitsOf, eventsOf, writeDeeds, onward, wires, wireDeeds, syncAfter, Alike, none, writes, events}
+use Rattle.links.specs.Items.{WholeWrite, Item, write, besideWires, Way, wholeBytes, halves, serial, above, bitsOf, writeEvents, writeDeeds, onward, wires, wireDeeds, syncAfter, Alike, none, writes, events}
 use Rattle.links.specs.Connector.{Performed, Controller, Connected, CameAll, Comes, elsewhere, comes, preceded, rests, carriedAt, eventAt, runs, act, does, HasDl, KeepsDl, Idles}
 use Rattle.links.specs.Statements.{ItemsAct, Respected, ListsAgree}
 use Rattle.links.proofs.HalvesPaired.{second-half-acts}
@@ -79,7 +79,7 @@ module _ {S : Type 0} (on : Controller S) where
     -- a write over any way, then the rest
     write-first : (way : Way) (s : S) (sync : Sync) (w : WholeWrite) (items : List Item) (rest : List Event) →
         KeepsDl on way s (write w ∷ items) →
-        runs on (rests way s sync) (eventsOf way w ++ rest)
+        runs on (rests way s sync) (writeEvents way w ++ rest)
         ≡ preceded (writeDeeds way w) (runs on (rests (onward way) (act on s (w .register) (w .byte)) (Body (w .register) 0 0)) rest)
     unfolding HasDl byWidth
     write-first wholeBytes s sync w items rest d = transfer-first s Empty (writing (w .register) (w .byte)) true _ rest (d .0) refl

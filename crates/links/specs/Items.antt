@@ -62,13 +62,13 @@ bitsOf [] = []
 bitsOf (b ∷ more) = highestFirst b ++ bitsOf more
 
 -- a write on the wires: one transfer of its byte; two, upper half first; or the 24 bits of the sender's three bytes
-abbrev pub eventsOf : Way → WholeWrite → List Event
-eventsOf wholeBytes w = Transfer (writing (w .register) (w .byte)) ∷ []
-eventsOf (halves low) w =
+abbrev pub writeEvents : Way → WholeWrite → List Event
+writeEvents wholeBytes w = Transfer (writing (w .register) (w .byte)) ∷ []
+writeEvents (halves low) w =
     Transfer (writing (w .register) (above (bits7-4 (w .byte)) (low 0)))
     ∷ Transfer (writing (w .register) (above (bits3-0 (w .byte)) (low 1)))
     ∷ []
-eventsOf serial w = map Bit (bitsOf (threeBytes (w .register) (w .byte)))
+writeEvents serial w = map Bit (bitsOf (threeBytes (w .register) (w .byte)))
 
 -- of these events exactly the last acts
 abbrev pub writeDeeds : Way → WholeWrite → List Deed
@@ -85,7 +85,7 @@ onward serial = serial
 -- a list of items on the wires
 unfoldable pub wires : Way → List Item → List Event
 wires way [] = []
-wires way (write w ∷ items) = eventsOf way w ++ wires (onward way) items
+wires way (write w ∷ items) = writeEvents way w ++ wires (onward way) items
 wires way (besideWires x ∷ items) = x .event ∷ wires way items
 
 -- what of each of its events acts

@@ -65,8 +65,8 @@ heard (Inside header) bit = record { receiver = headerBit header bit; received =
 heard (Outside run sync) bit = record { receiver = counted run bit (bodyBit sync bit); received = completed sync bit }
 
 -- chip select low loses sync and clears the run
-abbrev pub selectLow : Receiver → Receiver
-selectLow receiver = Outside 0 Lost
+abbrev pub afterSelectLow : Receiver → Receiver
+afterSelectLow receiver = Outside 0 Lost
 
 -- bits in a row: the receiver after them, and what each of them brought
 pub record Listened : Type 0 where

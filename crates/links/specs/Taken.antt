@@ -21,7 +21,7 @@ use Rattle.links.specs.declared.Taken.{Taken}
 use Rattle.links.specs.declared.Taken.the-variants.{OtherLink, Carries}
 use Rattle.links.specs.declared.Replied.{Replied}
 use Rattle.links.specs.Halves.{writing, paired, firstReply, pairingAfter}
-use Rattle.links.specs.Serial.{heard, selectLow}
+use Rattle.links.specs.Serial.{heard, afterSelectLow}
 use Rattle.links.specs.Idle.{idle}
 
 -- the controller's answer is the reply, and the link is this
@@ -52,7 +52,7 @@ bitTaken (Serial receiver) bit = Carries (bitCarried (heard receiver bit))
 
 abbrev pub selectTaken : Link → Taken
 selectTaken (Parallel pairing) = OtherLink
-selectTaken (Serial receiver) = Carries (stays Nothing (Serial (selectLow receiver)))
+selectTaken (Serial receiver) = Carries (stays Nothing (Serial (afterSelectLow receiver)))
 
 -- an event on a link, by DL; reset is of both links, takes the interface pin, and leaves the link idle
 unfoldable pub takenBy : Bool → Link → Event → Taken

@@ -6,7 +6,7 @@ use crate::Receiver;
 use crate::Sync;
 ghost use mathlib.Core.Path.{_≡_};
 ghost use Rattle.links.specs.declared.Sync.the-variants.{Body};
-ghost use Rattle.links.specs.Serial.{counted, afterHeader, headerBit, pushed, bodyBit, completed, heard, selectLow};
+ghost use Rattle.links.specs.Serial.{counted, afterHeader, headerBit, pushed, bodyBit, completed, heard, afterSelectLow};
 ghost use Rattle.links.specs.Idle.{idleReceiver};
 
 // One serial bit, with chip select high.
@@ -27,7 +27,7 @@ pub fn hear(receiver: Receiver, bit: bool) -> Heard
 
 // Chip select low, wherever the receiver stood.
 pub fn select_low(receiver: Receiver) -> Receiver
-    ensures { λ r. ⌜ r ≡ selectLow receiver ⌝ }
+    ensures { λ r. ⌜ r ≡ afterSelectLow receiver ⌝ }
 {
     idle_receiver()
 }
