@@ -8,11 +8,11 @@ use Rattle.calls.specs.State.{State}
 use Rattle.calls.specs.Calls.{Called, afterCalls}
 use Rattle.demands.specs.Wires.{answers}
 use Rattle.printed.specs.Text.{RecordAnswer, recordAnswer}
-use Rattle.playback.specs.Records.{eventsOf}
+use Rattle.playback.specs.Records.{recordEvents}
 
 -- a record's calls, by the table of kinds
 abbrev pub callsOf : Recorded → List Event
-callsOf r = eventsOf (r .kind) (r .value)
+callsOf r = recordEvents (r .kind) (r .value)
 
 -- the calls of records, one after another
 abbrev pub callsOfAll : List Recorded → List Event

@@ -15,7 +15,7 @@ use Rattle.capture.specs.Kinds.{Kind, instructionWrite, dataWrite, statusRead, 
 use Rattle.calls.specs.State.{State}
 use Rattle.calls.specs.Calls.{Called, refused, called}
 use Rattle.calls.proofs.Kept.{Unmoved, called-unmoved, called-length}
-use Rattle.playback.specs.Records.{asks, eventsOf, calledOn, firstNumber, calledInTurn, recordCalled}
+use Rattle.playback.specs.Records.{asks, recordEvents, calledOn, firstNumber, calledInTurn, recordCalled}
 
 -- a record asks for one event, or for the bits of its value
 pub one-or-bits :
@@ -92,7 +92,7 @@ module _ (e : Seen) (kind value : ℕ) (s : State) (frame : List ℕ) where
 
   -- a record is its one event, or its eight bits
   module _ (k : Called) where
-    pub record-of-one : (event : Event) → k ≡ called e s frame event → event ∷ [] ≡ eventsOf kind value → k ≡ recordCalled e kind value s frame
+    pub record-of-one : (event : Event) → k ≡ called e s frame event → event ∷ [] ≡ recordEvents kind value → k ≡ recordCalled e kind value s frame
     unfolding recordCalled
     record-of-one event is asked = is ∙ sym (one-in-turn e s frame event) ∙ ap (calledInTurn e s frame) asked
 

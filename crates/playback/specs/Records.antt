@@ -23,8 +23,8 @@ asks selectLow value = SelectLow ∷ []
 asks reset value = Reset (record { parallel = eqb value 1 }) ∷ []
 
 -- a record's events
-abbrev pub eventsOf : ℕ → ℕ → List Event
-eventsOf kind value = asks (kindOf kind) value
+abbrev pub recordEvents : ℕ → ℕ → List Event
+recordEvents kind value = asks (kindOf kind) value
 
 -- with the count of a call before
 abbrev pub plusCount : ℕ → Called → Called
@@ -49,4 +49,4 @@ calledInTurn e s frame events =
 
 -- a record
 unfoldable pub recordCalled : Seen → ℕ → ℕ → State → List ℕ → Called
-recordCalled e kind value s frame = calledInTurn e s frame (eventsOf kind value)
+recordCalled e kind value s frame = calledInTurn e s frame (recordEvents kind value)

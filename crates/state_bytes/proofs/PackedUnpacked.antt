@@ -12,23 +12,23 @@ use Rattle.controller.specs.declared.Waiting.{Waiting}
 use Rattle.controller.specs.declared.Waiting.the-variants.{Nothing, Row}
 use Rattle.controller.specs.declared.Control.{Control}
 use Rattle.controller.specs.State.{limit, RowInRange, InRange}
-use Rattle.state_bytes.specs.Packed.{flag, targetOf, counterOf, waitingOf, placeOf, viewOf, unpacked, flagByte, targetByte, waitsByte, waitingByte, packed}
+use Rattle.state_bytes.specs.Packed.{flag, targetFrom, counterFrom, waitingFrom, placeFrom, viewFrom, unpacked, flagByte, targetByte, waitsByte, waitingByte, packed}
 
 flag-read : (on : Bool) → flag (flagByte on) ≡ on
 flag-read true = refl
 flag-read false = refl
 
-target-read : (t : Target) → targetOf (targetByte t) ≡ t
+target-read : (t : Target) → targetFrom (targetByte t) ≡ t
 target-read Text = refl
 target-read Glyph = refl
 target-read Graphic = refl
 
-counter-read : (t : Target) (n : ℕ) → n < limit t → counterOf t n ≡ n
+counter-read : (t : Target) (n : ℕ) → n < limit t → counterFrom t n ≡ n
 counter-read Text n h = mod-eq-of-lt h
 counter-read Glyph n h = mod-eq-of-lt h
 counter-read Graphic n h = mod-eq-of-lt h
 
-waiting-read : (w : Waiting) → RowInRange w → waitingOf (flag (waitsByte w)) (waitingByte w) ≡ w
+waiting-read : (w : Waiting) → RowInRange w → waitingFrom (flag (waitsByte w)) (waitingByte w) ≡ w
 waiting-read Nothing h = refl
 waiting-read (Row y) h = rw (mod-eq-of-lt h)
 
@@ -42,7 +42,7 @@ lines-read (a ∷ b ∷ c ∷ d ∷ []) h = refl
 lines-read (a ∷ b ∷ c ∷ d ∷ e ∷ l) h = absurd (omega arith)
 
 pub unpacked-packed : (c : Control) → InRange c → unpacked (packed c) ≡ c
-unfolding unpacked packed placeOf viewOf
+unfolding unpacked packed placeFrom viewFrom
 unpacked-packed c r =
     simp (
       flag-read,

@@ -18,30 +18,30 @@ abbrev pub flag : ℕ → Bool
 flag byte = eqb (byte % 2) 1
 
 -- 0 text, 1 glyph, 2 graphic
-abbrev pub targetOf : ℕ → Target
-targetOf byte = if eqb (byte % 4) 0 then Text else if eqb (byte % 4) 1 then Glyph else Graphic
+abbrev pub targetFrom : ℕ → Target
+targetFrom byte = if eqb (byte % 4) 0 then Text else if eqb (byte % 4) 1 then Glyph else Graphic
 
-abbrev pub counterOf : Target → ℕ → ℕ
-counterOf Text byte = byte % 64
-counterOf Glyph byte = byte % 64
-counterOf Graphic byte = byte % 16
+abbrev pub counterFrom : Target → ℕ → ℕ
+counterFrom Text byte = byte % 64
+counterFrom Glyph byte = byte % 64
+counterFrom Graphic byte = byte % 16
 
-abbrev pub waitingOf : Bool → ℕ → Waiting
-waitingOf waits row = if waits then Row (row % 64) else Nothing
+abbrev pub waitingFrom : Bool → ℕ → Waiting
+waitingFrom waits row = if waits then Row (row % 64) else Nothing
 
-unfoldable pub placeOf : List ℕ → Place
-placeOf b =
+unfoldable pub placeFrom : List ℕ → Place
+placeFrom b =
     record {
-      target = targetOf (getD b 0 0);
-      counter = counterOf (targetOf (getD b 0 0)) (getD b 1 0);
+      target = targetFrom (getD b 0 0);
+      counter = counterFrom (targetFrom (getD b 0 0)) (getD b 1 0);
       row = getD b 2 0 % 64;
       low = flag (getD b 3 0);
       dummy = flag (getD b 4 0);
-      waiting = waitingOf (flag (getD b 5 0)) (getD b 6 0);
+      waiting = waitingFrom (flag (getD b 5 0)) (getD b 6 0);
     }
 
-unfoldable pub viewOf : List ℕ → View
-viewOf b =
+unfoldable pub viewFrom : List ℕ → View
+viewFrom b =
     record {
       scroll = getD b 17 0 % 64;
       shift = getD b 18 0 % 16;
@@ -51,12 +51,12 @@ viewOf b =
 unfoldable pub unpacked : List ℕ → Control
 unpacked b =
     record {
-      place = placeOf b;
+      place = placeFrom b;
       entry = record { id = flag (getD b 7 0); s = flag (getD b 8 0) };
       shown = record { display = flag (getD b 9 0); cursor = flag (getD b 10 0); blink = flag (getD b 11 0) };
       function = record { dl = flag (getD b 12 0); re = flag (getD b 13 0); g = flag (getD b 14 0) };
       sr = flag (getD b 15 0);
-      view = viewOf b;
+      view = viewFrom b;
       standby = flag (getD b 16 0);
     }
 

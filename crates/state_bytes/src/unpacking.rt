@@ -9,7 +9,7 @@ use controller::View;
 use controller::Waiting;
 use table::Target;
 ghost use mathlib.Core.Path.{_≡_};
-ghost use Rattle.state_bytes.specs.Packed.{flag, targetOf, counterOf, waitingOf, placeOf, viewOf, unpacked};
+ghost use Rattle.state_bytes.specs.Packed.{flag, targetFrom, counterFrom, waitingFrom, placeFrom, viewFrom, unpacked};
 
 fn flag(byte: u8) -> bool
     ensures { λ r. ⌜ r ≡ flag byte ⌝ }
@@ -18,7 +18,7 @@ fn flag(byte: u8) -> bool
 }
 
 fn target(byte: u8) -> Target
-    ensures { λ r. ⌜ r ≡ targetOf byte ⌝ }
+    ensures { λ r. ⌜ r ≡ targetFrom byte ⌝ }
 {
     if byte % 4 == 0 {
         return Target::Text;
@@ -31,7 +31,7 @@ fn target(byte: u8) -> Target
 
 // The counter has 6 bits for text and glyph memory, 4 for graphic memory.
 fn counter(target: Target, byte: u8) -> u8
-    ensures { λ r. ⌜ r ≡ counterOf target byte ⌝ }
+    ensures { λ r. ⌜ r ≡ counterFrom target byte ⌝ }
 {
     match target {
         Target::Text => byte % 64,
@@ -41,7 +41,7 @@ fn counter(target: Target, byte: u8) -> u8
 }
 
 fn waiting(waits: bool, row: u8) -> Waiting
-    ensures { λ r. ⌜ r ≡ waitingOf waits row ⌝ }
+    ensures { λ r. ⌜ r ≡ waitingFrom waits row ⌝ }
 {
     if waits {
         return Waiting::Row(row % 64);
@@ -50,7 +50,7 @@ fn waiting(waits: bool, row: u8) -> Waiting
 }
 
 fn place(bytes: &[u8; 23]) -> Place
-    ensures { λ r. ⌜ r ≡ placeOf (now (bytes .entry)) ⌝ }
+    ensures { λ r. ⌜ r ≡ placeFrom (now (bytes .entry)) ⌝ }
 {
     let target = target(bytes[0]);
     let counter = counter(target, bytes[1]);
@@ -69,7 +69,7 @@ fn place(bytes: &[u8; 23]) -> Place
 }
 
 fn view(bytes: &[u8; 23]) -> View
-    ensures { λ r. ⌜ r ≡ viewOf (now (bytes .entry)) ⌝ }
+    ensures { λ r. ⌜ r ≡ viewFrom (now (bytes .entry)) ⌝ }
 {
     View {
         scroll: bytes[17] % 64,

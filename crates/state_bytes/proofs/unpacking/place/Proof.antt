@@ -1,11 +1,11 @@
 -- The parts that the callees give.
 use borrow.Author.Needs.{needs}
-use Rattle.state_bytes.specs.Packed.{placeOf}
+use Rattle.state_bytes.specs.Packed.{placeFrom}
 use Rattle.state_bytes.proofs.unpacking.place.Statement.{statement}
 use Rattle.state_bytes.proofs.unpacking.place.Tie as tie
 
 pub place-spec : {M : Type 1} → statement M
-unfolding placeOf
+unfolding placeFrom
 place-spec =
     tie.close
     (tie.spec

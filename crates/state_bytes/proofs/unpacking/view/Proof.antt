@@ -1,12 +1,12 @@
 -- By computation.
 use borrow.Author.Needs.{needs}
 use mathlib.Core.Path.{refl}
-use Rattle.state_bytes.specs.Packed.{viewOf}
+use Rattle.state_bytes.specs.Packed.{viewFrom}
 use Rattle.state_bytes.proofs.unpacking.view.Statement.{statement}
 use Rattle.state_bytes.proofs.unpacking.view.Tie as tie
 
 pub view-spec : {M : Type 1} → statement M
-unfolding viewOf
+unfolding viewFrom
 view-spec =
     tie.close
     (tie.spec
