@@ -11,6 +11,11 @@ byte zifqarell_draw(const byte *text, const byte *glyph, const byte *graphic, co
 /* The loop of the program `timing`, so many turns as tools/cortex put in place of its million. */
 word on_lent(byte what) __asm__("timing::on_lent");
 
+/* The plain Rust of the bench. */
+void blocks_draw(const byte *screen, byte *frame, const byte *half, const byte *full);
+void bytewise_draw(const byte *screen, byte *frame, const byte *half, const byte *full);
+word plain_turns(byte what, word times);
+
 /* Put in by screens.s: four screens of text, glyph, graphic, controls and picture; the fonts. */
 #define SCREEN (128 + 128 + 2048 + 23 + 1024)
 extern const byte screens[4][SCREEN], half[2048], full[267264];
@@ -43,42 +48,59 @@ static void start(void) { begun = systick[2]; }
 /* The instructions of one of so many turns. */
 static word stop(word turns) { return (((begun - systick[2]) & 0xFFFFFF) * 40 + turns / 2) / turns; }
 
-static void report(const char *name, word count) {
-    print(name);
-    print(" ");
+static void report(word count) {
+    print(" | ");
     print_number(count);
-    print("\n");
 }
+
+/* The three drawings of a screen, each held to its picture. */
+static void proved(const byte *s) {
+    zifqarell_draw(s, s + 128, s + 256, s + 2304, frame, 1024, half, 2048, full, sizeof full, 1);
+}
+static void bytewise(const byte *s) { bytewise_draw(s, frame, half, full); }
+static void blocks(const byte *s) { blocks_draw(s, frame, half, full); }
 
 #define DRAWS 8
 
+static void draw(void (*one)(const byte *), const byte *s) {
+    start();
+    for (word turn = 0; turn < DRAWS; turn++) one(s);
+    word count = stop(DRAWS);
+    for (word i = 0; i < 1024; i++)
+        if (frame[i] != s[2327 + i]) {
+            print(" | another picture");
+            return;
+        }
+    report(count);
+}
+
 static void draw_all(void) {
-    static const char *const names[4] = {"draw-text", "draw-glyph", "draw-graphic", "draw-mixed"};
+    static const char *const names[4] = {"\n| draw, text", "\n| draw, glyph", "\n| draw, graphic", "\n| draw, mixed"};
     for (word k = 0; k < 4; k++) {
-        const byte *s = screens[k];
-        start();
-        for (word turn = 0; turn < DRAWS; turn++)
-            zifqarell_draw(s, s + 128, s + 256, s + 2304, frame, 1024, half, 2048, full, sizeof full, 1);
-        word count = stop(DRAWS);
-        for (word i = 0; i < 1024; i++)
-            if (frame[i] != s[2327 + i]) {
-                print("another picture\n");
-                return;
-            }
-        report(names[k], count);
+        print(names[k]);
+        draw(bytewise, screens[k]);
+        draw(blocks, screens[k]);
+        draw(proved, screens[k]);
+        print(" |");
     }
 }
 
 static void write_all(void) {
-    static const char *const names[3] = {"write-text", "write-glyph", "write-graphic"};
+    static const char *const names[3] = {"\n| write, text", "\n| write, glyph", "\n| write, graphic"};
     static const byte what[3] = {'t', 'i', 'g'};
     for (word k = 0; k < 3; k++) {
+        print(names[k]);
         start();
-        word sum = on_lent(what[k]);
+        word theirs = plain_turns(what[k], TURNS);
+        report(stop(TURNS));
+        start();
+        word ours = on_lent(what[k]);
         word count = stop(TURNS);
-        report(names[k], count);
-        (void)sum;
+        if (theirs == ours) report(count);
+        else print(" | other counts");
+        print(" |");
     }
+    print("\n");
 }
 
 void begin(void) {
@@ -94,7 +116,9 @@ void begin(void) {
 
 __attribute__((section(".vectors"), used)) static const void *const vectors[16] = {(void *)0x20400000, (void *)begin};
 
-/* What the module and the compiler ask for beside libgcc: of the C library, and of the program `timing` (never called here). */
+/* What the modules and the compiler ask for beside libgcc. */
+void __aeabi_unwind_cpp_pr0(void) {}
+void __aeabi_unwind_cpp_pr1(void) {}
 void *memcpy(void *to, const void *from, word n) {
     byte *t = to;
     const byte *f = from;

@@ -1,6 +1,6 @@
 //! The picture in plain Rust by the proved painters' idea and past it: a line's tiles are laid once; then blocks of four cells by four
 //! rows are turned from cells to rows in numbers of 64 bits, in which no byte is moved by itself.
-use crate::screen::*;
+use crate::state::*;
 
 /// A cell: sixteen rows of two bytes.
 pub type Tile = [u8; 32];
@@ -149,7 +149,7 @@ pub fn paint_whole(s: &Screen, look: Look, frame: &mut [u8; 1024]) {
         };
         for block in first / 4..after.div_ceil(4) {
             for four in 0..4 {
-                let cells = std::array::from_fn(|k| number(&tiles[4 * four + k], block));
+                let cells = core::array::from_fn(|k| number(&tiles[4 * four + k], block));
                 for (k, cells) in turned(cells).into_iter().enumerate() {
                     rows[4 * block + k][four] = cells ^ reverse;
                 }
@@ -159,7 +159,7 @@ pub fn paint_whole(s: &Screen, look: Look, frame: &mut [u8; 1024]) {
             let mut shown = rows[y];
             if graphic {
                 let over = &over[16 * line + y];
-                shown = std::array::from_fn(|k| shown[k] ^ number(over, k));
+                shown = core::array::from_fn(|k| shown[k] ^ number(over, k));
             }
             for (eight, shown) in bytes.as_chunks_mut::<8>().0.iter_mut().zip(shown) {
                 *eight = shown.to_le_bytes();

@@ -1,13 +1,14 @@
 //! The picture in plain Rust, as fast as we could write it: each cell's sixteen rows are laid out once, where whole vectors of bytes
 //! can be inverted at a time, then handed out row by row, and the graphic laid over a row of 32 bytes at a time.
-use crate::screen::*;
+use crate::blocks::Look;
+use crate::state::*;
 
 /// A cell: sixteen rows of two bytes.
 type Tile = [[u8; 2]; 16];
 
 const BLANK: [u8; 16] = [0; 16];
 
-fn half(f: &Fonts, code: u8) -> &[u8; 16] {
+fn half(f: Look<'_>, code: u8) -> &[u8; 16] {
     match code {
         0x02..=0x7F => f.half[16 * code as usize..].first_chunk().unwrap_or(&BLANK),
         _ => &BLANK,
@@ -33,13 +34,13 @@ fn columns(left: &[u8; 16], right: &[u8; 16]) -> Tile {
 }
 
 #[inline(always)]
-fn tile(s: &Screen, f: &Fonts, word: usize) -> Tile {
+fn tile(s: &Screen, f: Look, word: usize) -> Tile {
     let (high, low) = (s.text[2 * word], s.text[2 * word + 1]);
     match (high, low) {
         (0, 0..=0x0F) => pairs(&s.glyph, 32 * (low / 2 % 4) as usize),
         (0xA1..=0xF7, 0xA0..) => {
             let number = (high as usize - 0xA1) * 96 + (low as usize - 0xA0);
-            pairs(&f.full, 32 * number)
+            pairs(f.full, 32 * number)
         }
         (0xA1.., _) => [[0; 2]; 16],
         _ => columns(half(f, high), half(f, low)),
@@ -48,7 +49,7 @@ fn tile(s: &Screen, f: &Fonts, word: usize) -> Tile {
 
 /// The cells of a line, with cursor, blink and reverse.
 #[inline(always)]
-fn tiles(s: &Screen, f: &Fonts, phase: bool, line: usize) -> [Tile; 16] {
+fn tiles(s: &Screen, f: Look, line: usize) -> [Tile; 16] {
     let on = |at: usize| s.control[at] == 1;
     let reversed = on(REVERSED + line);
     let mut tiles = [[[0; 2]; 16]; 16];
@@ -59,7 +60,7 @@ fn tiles(s: &Screen, f: &Fonts, phase: bool, line: usize) -> [Tile; 16] {
         if here && on(CURSOR) {
             tile[15] = [0xFF; 2];
         }
-        if (here && on(BLINK) && phase) != reversed {
+        if (here && on(BLINK) && f.phase) != reversed {
             for byte in tile.as_flattened_mut() {
                 *byte = !*byte;
             }
@@ -69,8 +70,8 @@ fn tiles(s: &Screen, f: &Fonts, phase: bool, line: usize) -> [Tile; 16] {
     tiles
 }
 
-pub fn draw(s: &Screen, f: &Fonts, phase: bool, frame: &mut [u8; 1024]) {
-    if s.control[DISPLAY] != 1 || s.control[STANDBY] == 1 {
+fn paint_whole(s: &Screen, f: Look, frame: &mut [u8; 1024]) {
+    if s.dark() {
         frame.fill(0);
         return;
     }
@@ -80,7 +81,7 @@ pub fn draw(s: &Screen, f: &Fonts, phase: bool, frame: &mut [u8; 1024]) {
     let mut row = 0;
     while row < 32 {
         let (line, first) = ((row + scroll) % 64 / 16, (row + scroll) % 16);
-        let tiles = tiles(s, f, phase, line);
+        let tiles = tiles(s, f, line);
         let end = (row + 16 - first).min(32);
         for (y, bytes) in (first..).zip(&mut rows[row..end]) {
             for (two, tile) in bytes.as_chunks_mut::<2>().0.iter_mut().zip(&tiles) {
@@ -94,5 +95,16 @@ pub fn draw(s: &Screen, f: &Fonts, phase: bool, frame: &mut [u8; 1024]) {
             }
         }
         row = end;
+    }
+}
+
+/// Draws into the frame and answers 0, or the number of the refusal.
+pub fn draw(s: &Screen, frame: &mut [u8], half: &[u8], full: &[u8], phase: bool) -> u8 {
+    match Look::of(frame, half, full, phase) {
+        Ok((frame, look)) => {
+            paint_whole(s, look, frame);
+            0
+        }
+        Err(number) => number,
     }
 }

@@ -18,7 +18,13 @@ pub fn measure(fonts: &Fonts, screens: &[(&str, Screen)]) {
                     dots::draw(black_box(screen), fonts, true, black_box(by_dot))
                 }),
                 (400, &mut || {
-                    bytewise::draw(black_box(screen), fonts, true, black_box(by_byte))
+                    bytewise::draw(
+                        black_box(screen),
+                        black_box(by_byte),
+                        &fonts.half,
+                        &fonts.full,
+                        true,
+                    );
                 }),
                 (400, &mut || {
                     blocks::draw(

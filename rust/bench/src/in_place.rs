@@ -1,7 +1,7 @@
 //! The parallel panel in plain Rust, in place and made for speed: the caller keeps the state, and lends frame and fonts. It does what
 //! the proved call does with a transfer: refusals, whole and half bytes, every instruction, the repaint and its count.
 use crate::blocks::{lay, mark, paint_whole, shown, Look, Shown};
-use crate::screen::*;
+use crate::state::*;
 
 #[derive(Clone, Copy, PartialEq)]
 pub enum Transfer {

@@ -15,6 +15,7 @@ mod pictures;
 mod programs;
 mod replays;
 mod screen;
+mod state;
 mod timing;
 mod turns;
 mod writes;
@@ -38,7 +39,7 @@ fn main() {
     let words: Vec<String> = std::env::args().skip(1).collect();
     let words: Vec<&str> = words.iter().map(String::as_str).collect();
     if let ["turns", what] = words[..] {
-        turns::run(what.as_bytes()[0]);
+        println!("{}", turns::run(what.as_bytes()[0], 1_000_000));
         return;
     }
     let (fonts, screens) = scenes();

@@ -1,8 +1,6 @@
-//! A million turns of one thing, as the proved program `timing` does them, in plain Rust in place: the same transfers, the same
+//! Turns of one thing, as the proved program `timing` does them, in plain Rust in place: the same transfers, the same
 //! lent frame and fonts, the same number printed at the end.
 use crate::in_place::{Panel, Transfer};
-
-const TIMES: u32 = 1_000_000;
 
 fn mixed(sum: u32, with: usize) -> u32 {
     (sum % 65536) * 31 + (with % 65536) as u32
@@ -50,16 +48,16 @@ fn turn(what: u8, i: u32) -> Transfer {
     }
 }
 
-/// The first letter says what, as with `timing`.
-pub fn run(what: u8) {
+/// So many turns; the first letter says of what, as with `timing`. Answers the number that `timing` prints.
+pub fn run(what: u8, times: u32) -> u32 {
     let mut panel = Panel::fresh();
     let mut frame = [0u8; 1024];
     let half = [0u8; 2048];
     let full = [0u8; 32];
     let mut sum = 0;
-    for i in 0..TIMES {
+    for i in 0..times {
         let answer = panel.transfer(turn(what, i), &mut frame, &half, &full, false);
         sum = mixed(sum, answer.count);
     }
-    println!("{sum}");
+    sum
 }
