@@ -4,5 +4,7 @@ pub mod Lists
 pub mod Counting
 pub mod Painting
 pub mod Loops
+pub mod Layouts
+pub mod Copies
 pub mod Parts
 pub mod Below

@@ -33,6 +33,10 @@ module _ (P : ℕ → Bool) (b : ℕ → ℕ) where
   unfolding painted
   is-painted f l e g = is-upto (length f) _ l e g
 
+-- a painted frame keeps its length
+pub as-long : (P : ℕ → Bool) (b : ℕ → ℕ) (f g : List ℕ) → g ≡ painted P b f → length g ≡ length f
+as-long P b f g e = ap length e ∙ painted-length P b f
+
 -- the same places, with the same bytes where they are named
 pub painted-cong : (P Q : ℕ → Bool) (b d : ℕ → ℕ) (f : List ℕ) → ((i : ℕ) → i < length f → P i ≡ Q i) → ((i : ℕ) → i < length f → P i ≡ true → b i ≡ d i)
     → painted P b f ≡ painted Q d f
@@ -107,3 +111,17 @@ painted-moved m n P b f h =
     is-upto n _ (painted (λ i. P (m i)) (λ i. b (m i)) arranged) (painted-length _ _ arranged ∙ length-upto n _)
     (λ i l. let k : i < length arranged = subst (λ (z : ℕ). i < z) (sym (length-upto n _)) l in
     painted-at _ _ arranged i k ∙ ap (λ (z : ℕ). if P (m i) then b (m i) else z) (getD-upto n _ i l) ∙ sym (painted-at P b f (m i) (h i l)))
+
+-- painting with what is there changes nothing
+pub painted-kept : (P : ℕ → Bool) (f : List ℕ) → f ≡ painted P (λ i. getD f i 0) f
+painted-kept P f = is-painted P (λ i. getD f i 0) f f refl (λ i l. by (P i))
+  where
+    by : (t : Bool) {x : ℕ} → x ≡ (if t then x else x)
+    by true = refl
+    by false = refl
+
+-- a list given by its bytes, painted
+pub painted-upto : (P : ℕ → Bool) (b f : ℕ → ℕ) (n : ℕ) → painted P b (upto n f) ≡ upto n (λ i. if P i then b i else f i)
+painted-upto P b f n =
+    is-upto n _ (painted P b (upto n f)) (painted-length P b (upto n f) ∙ length-upto n f)
+    (λ i l. painted-at P b (upto n f) i (rw (length-upto n f) l) ∙ ap (λ (x : ℕ). if P i then b i else x) (getD-upto n f i l))

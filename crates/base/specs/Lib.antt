@@ -2,3 +2,4 @@ pub mod Choice
 pub mod Bits
 pub mod Lists
 pub mod Painting
+pub mod Layout

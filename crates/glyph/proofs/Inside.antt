@@ -12,7 +12,7 @@ use Rattle.glyph.specs.declared.Code.the-variants.{Unnumbered, Number}
 use Rattle.glyph.specs.declared.Content.{Content}
 use Rattle.glyph.specs.Numbering.{numberOf}
 use Rattle.glyph.specs.Lookup.{fullOf, fontOf, imageOr, contentOf}
-use Rattle.glyph.specs.Dots.{Inside}
+use Rattle.glyph.specs.Tiles.{Inside}
 
 full-inside : (c : Code) (length : ℕ) → Inside (fullOf c length) length
 unfolding fullOf

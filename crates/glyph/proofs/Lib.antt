@@ -1,4 +1,3 @@
 pub mod Inside
 pub mod Unread
-pub mod Copies
 pub mod Tiles

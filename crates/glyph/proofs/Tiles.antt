@@ -1,11 +1,11 @@
 -- Tiles: two bytes to a row, from a block, from two columns, row by row.
-use Prim.Native.Nat.{ℕ, _+_, _*_, _-_, _/_, _%_, _<_, _≤_}
+use Prim.Native.Nat.{ℕ, zero, _+_, _*_, _-_, _/_, _%_, _<_, _≤_}
 use mathlib.Core.Path.{_≡_, refl, sym, ap, ap₂, _∙_}
 use mathlib.Core.Logic.{_≢_}
 use mathlib.Core.Bool.{Bool, true, false, _&&_}
 use mathlib.Core.List.{List}
 use native.Mathlib.Omega.{arith}
-use lib.ListN.{length, getD, set}
+use lib.ListN.{length, getD, set, replicate}
 use lib.Dec.{eqb, leb}
 use borrow.Author.Tests.{eqb-true, eqb-false, eq-eqb, ne-eqb, leb-true}
 use Rattle.base.specs.Choice.{if_then_else_}
@@ -13,21 +13,12 @@ use Rattle.base.specs.Lists.{upto}
 use Rattle.base.specs.Painting.{painted, everywhere, between}
 use Rattle.base.proofs.Choice.{by-test}
 use Rattle.base.proofs.Tests.{and-both}
-use Rattle.base.proofs.Lists.{getD-upto}
-use Rattle.base.proofs.Painting.{painted-cong}
-use Rattle.base.proofs.Loops.{in-between, paint-step}
+use Rattle.base.proofs.Lists.{getD-upto, upto-cong, is-upto}
+use Rattle.base.proofs.Copies.{two-further, stretch-cong, blocks-laid}
 use Rattle.controller.specs.Memories.{half}
 use Rattle.glyph.specs.declared.Content.the-variants.{Image, Full, Halves}
 use Rattle.glyph.specs.Dots.{hasHalf, halfByte, dotsOf}
 use Rattle.glyph.specs.Tiles.{odd, tileDots, beside}
-use Rattle.glyph.proofs.Copies.{two-further}
-
--- the same bytes on a stretch of places, by how far into it they are
-pub stretch-cong : (to n : ℕ) (b d : ℕ → ℕ) (f : List ℕ) → ((j : ℕ) → j < n → b j ≡ d j)
-    → painted (between to (to + n) everywhere) (λ i. b (i - to)) f ≡ painted (between to (to + n) everywhere) (λ i. d (i - to)) f
-stretch-cong to n b d f e =
-    painted-cong _ _ (λ i. b (i - to)) (λ i. d (i - to)) f (λ i l. refl)
-    (λ i l t. let q = in-between to (to + n) everywhere i t in e (i - to) (omega arith))
 
 -- the byte of a row at the places of that row
 even-place : (byte : ℕ → Bool → ℕ) (to y : ℕ) → byte y false ≡ byte ((to + 2 * y - to) / 2) (odd (to + 2 * y - to))
@@ -44,19 +35,16 @@ row-further byte f g to y v w k c e d =
     two-further (λ i. byte ((i - to) / 2) (odd (i - to))) f g to (to + 2 * y) (to + 2 * (y + 1)) (omega arith) c v w k (omega arith)
     (e ∙ even-place byte to y) (d ∙ odd-place byte to y)
 
--- two blocks of sixteen, taken one after the other, are one of thirty-two
-pub blocks-laid : (from f g h : List ℕ) (to at : ℕ)
+-- thirty-two bytes that lie together, in two blocks of sixteen
+pub block-laid : (from f g h : List ℕ) (to at : ℕ)
     → g ≡ painted (between to (to + 16) everywhere) (λ i. getD (upto 16 (λ k. getD from (at + k) 0)) (i - to) 0) f
     → h ≡ painted (between (to + 16) (to + 16 + 16) everywhere) (λ i. getD (upto 16 (λ k. getD from (at + 16 + k) 0)) (i - (to + 16)) 0) g
     → h ≡ painted (between to (to + 32) everywhere) (λ i. getD from (at + (i - to)) 0) f
-blocks-laid from f g h to at c e =
-    let last : to + 32 ≡ to + 16 + 16 = omega arith in
-    rw last (paint-step everywhere (λ i. getD from (at + (i - to)) 0) f g h to (to + 16) (to + 16 + 16) (omega arith) (omega arith)
-    (c ∙ stretch-cong to 16 (λ j. getD (upto 16 (λ k. getD from (at + k) 0)) j 0) (λ j. getD from (at + j) 0) f (λ j l. getD-upto 16 (λ k. getD from (at + k) 0) j l))
-    (e ∙ painted-cong _ _ _ _ g (λ i l. refl)
-    (λ i l t. let q = in-between (to + 16) (to + 16 + 16) everywhere i t in
-    let j : at + 16 + (i - (to + 16)) ≡ at + (i - to) = omega arith in
-    getD-upto 16 (λ k. getD from (at + 16 + k) 0) (i - (to + 16)) (omega arith) ∙ ap (λ (k : ℕ). getD from k 0) j)))
+block-laid from f g h to at c e =
+    blocks-laid (λ j. getD from (at + j) 0) (upto 16 (λ k. getD from (at + k) 0)) (upto 16 (λ k. getD from (at + 16 + k) 0)) f g h to
+    (λ j l. getD-upto 16 (λ k. getD from (at + k) 0) j l)
+    (λ j l. let k : at + 16 + j ≡ at + (16 + j) = omega arith in getD-upto 16 (λ k. getD from (at + 16 + k) 0) j l ∙ ap (λ (n : ℕ). getD from n 0) k)
+    c e
 
 -- an odd place is the second of its word
 half-odd : (j : ℕ) → half (odd j) ≡ j % 2
@@ -78,21 +66,29 @@ module _ (halves fulls glyph : List ℕ) (to : ℕ) (f : List ℕ) where
   full-laid i = stretch-cong to 32 (λ j. getD fulls (32 * i + j) 0) (tileDots halves fulls glyph (Full i)) f
       (λ j l. let h = half-odd j in let k : 32 * i + j ≡ 32 * i + 2 * (j / 2) + half (odd j) = omega arith in ap (λ (k : ℕ). getD fulls k 0) k)
 
-  pub halves-laid : (h l : ℕ) → (hasHalf h && hasHalf l) ≡ true
-      → painted (between to (to + 32) everywhere) (λ k. beside (upto 16 (λ y. getD halves (16 * h + y) 0)) (upto 16 (λ y. getD halves (16 * l + y) 0)) (k - to)) f
+  pub halves-laid : (h l : ℕ) → painted (between to (to + 32) everywhere) (λ k. beside (upto 16 (halfByte halves h)) (upto 16 (halfByte halves l)) (k - to)) f
       ≡ painted (between to (to + 32) everywhere) (λ k. tileDots halves fulls glyph (Halves h l) (k - to)) f
-  unfolding dotsOf halfByte
-  halves-laid h l t =
-      let q = and-both (hasHalf h) (hasHalf l) t in
-      stretch-cong to 32 (beside (upto 16 (λ y. getD halves (16 * h + y) 0)) (upto 16 (λ y. getD halves (16 * l + y) 0))) (tileDots halves fulls glyph (Halves h l)) f
+  unfolding dotsOf
+  halves-laid h l =
+      stretch-cong to 32 (beside (upto 16 (halfByte halves h)) (upto 16 (halfByte halves l))) (tileDots halves fulls glyph (Halves h l)) f
       (λ j k. by-test (odd j)
-      (λ e. rw (e, q .1) (getD-upto 16 (λ y. getD halves (16 * l + y) 0) (j / 2) (omega arith)))
-      (λ e. rw (e, q .0) (getD-upto 16 (λ y. getD halves (16 * h + y) 0) (j / 2) (omega arith))))
+      (λ e. rw e (getD-upto 16 (halfByte halves l) (j / 2) (omega arith)))
+      (λ e. rw e (getD-upto 16 (halfByte halves h) (j / 2) (omega arith))))
+
+-- a block of zeros
+pub zeros-at : (j : ℕ) → j < 16 → getD (replicate 16 zero) j zero ≡ zero
+unfolding upto
+zeros-at j l = getD-upto 16 (λ i. 0) j l
+
+-- the column of a code that has a half glyph, and of one that has none
+pub column-shown : (halves : List ℕ) (c : ℕ) → hasHalf c ≡ true → upto 16 (λ y. getD halves (16 * c + y) 0) ≡ upto 16 (halfByte halves c)
+unfolding halfByte
+column-shown halves c t = upto-cong 16 _ _ (λ y l. rw t)
+
+pub column-blank : (halves : List ℕ) (c : ℕ) → hasHalf c ≡ false → replicate 16 zero ≡ upto 16 (halfByte halves c)
+unfolding halfByte
+column-blank halves c t = is-upto 16 _ (replicate 16 0) refl (λ y l. zeros-at y l ∙ rw t)
 
 -- a half glyph lies inside its font
-pub half-inside : (h l : ℕ) → (hasHalf h && hasHalf l) ≡ true → (h < 128) × (l < 128)
-half-inside h l t =
-    let q = and-both (hasHalf h) (hasHalf l) t in
-    let a = leb-true h 0x7F (and-both (leb 0x02 h) (leb h 0x7F) (q .0) .1) in
-    let b = leb-true l 0x7F (and-both (leb 0x02 l) (leb l 0x7F) (q .1) .1) in
-    (omega arith, omega arith)
+pub code-inside : (c : ℕ) → hasHalf c ≡ true → c < 128
+code-inside c t = let a = leb-true c 0x7F (and-both (leb 0x02 c) (leb c 0x7F) t .1) in omega arith

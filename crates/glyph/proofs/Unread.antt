@@ -1,14 +1,15 @@
 -- Of glyph memory a cell's dots read one byte, where the word shows an image, and else none: any other byte may change.
 use Prim.Native.Nat.{ℕ, _+_, _*_}
-use mathlib.Core.Path.{_≡_, refl}
+use mathlib.Core.Path.{_≡_, refl, sym, ap}
 use mathlib.Core.Logic.{_≢_}
-use mathlib.Core.Bool.{Bool}
+use mathlib.Core.Bool.{Bool, true, true≢false}
 use mathlib.Core.List.{List}
-use lib.ListN.{set}
+use lib.ListN.{getD, set}
 use lib.Seq.{getD-set-other}
 use lib.Dec.{leb}
+use borrow.Author.Tests.{eqb-true}
 use Rattle.base.proofs.Choice.{either}
-use Rattle.controller.specs.Glass.{imageOf}
+use Rattle.controller.specs.Glass.{imageOf, isImage}
 use Rattle.controller.specs.Memories.{wordPlace, imageRow}
 use Rattle.controller.specs.declared.Image as image
 use Rattle.controller.specs.declared.Image.the-variants as found
@@ -40,3 +41,13 @@ module _ (halves fulls : List ℕ) (y : ℕ) (right : Bool) where
           → dotsOf halves fulls (set g a b) (imageOr i (fontOf high low size)) y right ≡ dotsOf halves fulls g (imageOr i (fontOf high low size)) y right
       by found.Nothing e = font-reads-none (set g a b) g high low size
       by (found.Number i) e = getD-set-other g a (wordPlace (imageRow i y) right) b 0 (other i e)
+
+-- where the word shows an image, that byte
+pub image-shown : (halves fulls g : List ℕ) (high low size y : ℕ) (right : Bool) (i a : ℕ) → isImage (imageOf high low) i ≡ true → wordPlace (imageRow i y) right ≡ a
+    → dotsOf halves fulls g (contentOf high low size) y right ≡ getD g a 0
+unfolding contentOf dotsOf
+image-shown halves fulls g high low size y right i a t p = by (imageOf high low) t
+  where
+    by : (x : image.Image) → isImage x i ≡ true → dotsOf halves fulls g (imageOr x (fontOf high low size)) y right ≡ getD g a 0
+    by found.Nothing e = absurd (true≢false (sym e))
+    by (found.Number n) e = let z : n ≡ i = eqb-true n i e in rw z (ap (λ (k : ℕ). getD g k 0) p)

@@ -1,7 +1,6 @@
 -- Document 01, "The picture": the dots of what is shown, one byte of a glyph row at a time. This layer knows memories and fonts.
-use Prim.{Unit}
-use Prim.Native.Nat.{ℕ, _+_, _*_, _<_, _≤_}
-use mathlib.Core.Bool.{Bool, true, false, _&&_}
+use Prim.Native.Nat.{ℕ, _+_, _*_}
+use mathlib.Core.Bool.{Bool, _&&_}
 use mathlib.Core.List.{List}
 use lib.ListN.{getD}
 use lib.Dec.{leb}
@@ -9,7 +8,6 @@ use Rattle.base.specs.Choice.{if_then_else_}
 use Rattle.controller.specs.Memories.{half, wordPlace, imageRow}
 use Rattle.glyph.specs.declared.Content.{Content}
 use Rattle.glyph.specs.declared.Content.the-variants.{Image, Full, Halves, Blank}
-use Rattle.glyph.specs.declared.Pair.{Pair}
 
 -- row y of image i is glyph word 16i + y
 abbrev pub imageByte : List ℕ → ℕ → ℕ → Bool → ℕ
@@ -32,26 +30,3 @@ dotsOf halves fulls glyph (Image i) y low = imageByte glyph i y low
 dotsOf halves fulls glyph (Full i) y low = fullByte fulls i y low
 dotsOf halves fulls glyph (Halves h l) y low = halfByte halves (if low then l else h) y
 dotsOf halves fulls glyph Blank y low = 0
-
--- both bytes of a row, as the code hands them on
-abbrev pub both : (Bool → ℕ) → Pair
-both byte = record { left = byte false; right = byte true }
-
-abbrev pub imageRowDots : List ℕ → ℕ → ℕ → Pair
-imageRowDots glyph i y = both (imageByte glyph i y)
-
-abbrev pub fullRowDots : List ℕ → ℕ → ℕ → Pair
-fullRowDots font i y = both (fullByte font i y)
-
-abbrev pub halfRowDots : List ℕ → ℕ → ℕ → ℕ → Pair
-halfRowDots font h l y = record { left = halfByte font h y; right = halfByte font l y }
-
-unfoldable pub rowDots : List ℕ → List ℕ → List ℕ → Content → ℕ → Pair
-rowDots halves fulls glyph c y = both (dotsOf halves fulls glyph c y)
-
--- what is shown lies inside glyph memory, or inside a full font of `length` bytes
-abbrev pub Inside : Content → ℕ → Type 0
-Inside (Image i) length = i < 4
-Inside (Full i) length = 32 * i + 32 ≤ length
-Inside (Halves h l) length = Unit {0}
-Inside Blank length = Unit {0}

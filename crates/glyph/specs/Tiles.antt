@@ -1,12 +1,22 @@
--- A cell's tile: its sixteen rows one after the other, two bytes to a row.
-use Prim.Native.Nat.{ℕ, _/_, _%_}
+-- No sentence of document 01, but what the contracts of the code ask and promise: what is shown is there; a cell's tile is its sixteen rows
+-- one after the other, two bytes to a row.
+use Prim.{Unit}
+use Prim.Native.Nat.{ℕ, _+_, _*_, _/_, _%_, _<_, _≤_}
 use mathlib.Core.Bool.{Bool}
 use mathlib.Core.List.{List}
 use lib.ListN.{getD}
 use lib.Dec.{eqb}
 use Rattle.base.specs.Choice.{if_then_else_}
 use Rattle.glyph.specs.declared.Content.{Content}
+use Rattle.glyph.specs.declared.Content.the-variants.{Image, Full, Halves, Blank}
 use Rattle.glyph.specs.Dots.{dotsOf}
+
+-- what is shown lies inside glyph memory, or inside a full font of `length` bytes
+abbrev pub Inside : Content → ℕ → Type 0
+Inside (Image i) length = i < 4
+Inside (Full i) length = 32 * i + 32 ≤ length
+Inside (Halves h l) length = Unit {0}
+Inside Blank length = Unit {0}
 
 -- the right byte of a row has an odd place
 abbrev pub odd : ℕ → Bool

@@ -1,33 +1,29 @@
-// The dots of one glyph row of a cell.
+// One byte of the dots of what a cell shows.
 use crate::Content;
-use crate::Pair;
+use controller::places::half as half_of;
 ghost use mathlib.Core.Path.{_≡_};
 ghost use Prim.Native.Nat.{_+_, _*_, _<_, _≤_};
 ghost use lib.ListN.{length};
-ghost use Rattle.glyph.specs.Dots.{imageRowDots, fullRowDots, halfByte, halfRowDots, rowDots, Inside};
+ghost use Rattle.base.specs.Choice.{if_then_else_};
+ghost use Rattle.glyph.specs.Dots.{imageByte, fullByte, halfByte, dotsOf};
+ghost use Rattle.glyph.specs.Tiles.{Inside};
 
 // Row y of image i.
-fn image_row(i: u8, y: usize, glyph: &[u8; 128]) -> Pair
+fn image_byte(i: u8, y: usize, right: bool, glyph: &[u8; 128]) -> u8
     requires { ⌜ (i < 4) × (y < 16) ⌝ }
-    ensures { λ r. ⌜ r ≡ imageRowDots (now (glyph .entry)) i y ⌝ }
+    ensures { λ r. ⌜ r ≡ imageByte (now (glyph .entry)) i y right ⌝ }
 {
-    let at = 2 * (16 * (i as usize) + y);
-    Pair {
-        left: glyph[at],
-        right: glyph[at + 1],
-    }
+    let at = 2 * (16 * (i as usize) + y) + half_of(right);
+    glyph[at]
 }
 
 // Row y of full glyph n.
-fn full_row(n: u16, y: usize, full: &[u8]) -> Pair
+fn full_byte(n: u16, y: usize, right: bool, full: &[u8]) -> u8
     requires { ⌜ (32 * n + 32 ≤ length (now full)) × (y < 16) ⌝ }
-    ensures { λ r. ⌜ r ≡ fullRowDots (now (full .entry)) n y ⌝ }
+    ensures { λ r. ⌜ r ≡ fullByte (now (full .entry)) n y right ⌝ }
 {
-    let at = 32 * (n as usize) + 2 * y;
-    Pair {
-        left: full[at],
-        right: full[at + 1],
-    }
+    let at = 32 * (n as usize) + 2 * y + half_of(right);
+    full[at]
 }
 
 // Row y of half glyph `code`, for codes 02h..7Fh.
@@ -45,26 +41,29 @@ fn half_byte(code: u8, y: usize, half: &[u8]) -> u8
     half[at]
 }
 
-// Row y of two half glyphs.
-fn half_row(high: u8, low: u8, y: usize, half: &[u8]) -> Pair
-    requires { ⌜ (y < 16) × (length (now half) ≡ 2048) ⌝ }
-    ensures { λ r. ⌜ r ≡ halfRowDots (now (half .entry)) high low y ⌝ }
+// The code of one of two half glyphs.
+fn code_of(high: u8, low: u8, right: bool) -> u8
+    ensures { λ r. ⌜ r ≡ (if right then low else high) ⌝ }
 {
-    Pair {
-        left: half_byte(high, y, half),
-        right: half_byte(low, y, half),
-    }
+    if right { low } else { high }
 }
 
-// Glyph row y of what a cell shows.
-pub fn row_dots(content: Content, y: usize, glyph: &[u8; 128], half: &[u8], full: &[u8]) -> Pair
+// The left or the right byte of glyph row y of what a cell shows.
+pub fn dot_byte(
+    content: Content,
+    y: usize,
+    right: bool,
+    glyph: &[u8; 128],
+    half: &[u8],
+    full: &[u8],
+) -> u8
     requires { ⌜ (y < 16) × (length (now half) ≡ 2048) × Inside content (length (now full)) ⌝ }
-    ensures { λ r. ⌜ r ≡ rowDots (now (half .entry)) (now (full .entry)) (now (glyph .entry)) content y ⌝ }
+    ensures { λ r. ⌜ r ≡ dotsOf (now (half .entry)) (now (full .entry)) (now (glyph .entry)) content y right ⌝ }
 {
     match content {
-        Content::Image(i) => image_row(i, y, glyph),
-        Content::Full(n) => full_row(n, y, full),
-        Content::Halves { high, low } => half_row(high, low, y, half),
-        Content::Blank => Pair { left: 0, right: 0 },
+        Content::Image(i) => image_byte(i, y, right, glyph),
+        Content::Full(n) => full_byte(n, y, right, full),
+        Content::Halves { high, low } => half_byte(code_of(high, low, right), y, half),
+        Content::Blank => 0,
     }
 }

@@ -1,5 +1,6 @@
 // What a text word shows, after document 01's "The picture", in three layers that know nothing of one another's rules:
-// a code's number in the full font; from it, and from the length of that font, what the cell shows; and from that the dots of a glyph row.
+// a code's number in the full font; from it, and from the length of that font, what the cell shows; and from that its dots, a byte or a
+// whole tile.
 
 pub mod dots;
 pub mod lookup;
@@ -18,10 +19,4 @@ pub enum Content {
     Full(u16),
     Halves { high: u8, low: u8 },
     Blank,
-}
-
-// The two bytes of one row of a cell.
-pub struct Pair {
-    pub left: u8,
-    pub right: u8,
 }

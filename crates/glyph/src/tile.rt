@@ -1,16 +1,15 @@
 // All sixteen rows of a cell at once: its tile, 32 bytes, two to a row. Sixteen bytes are read before one of them is stored, so that
-// the compiler may move them together whatever the slices are.
+// the compiler may move them together whatever the slices are. Counters have 32 bits: on a small core a turn is shorter for it.
 use crate::Content;
-use crate::dots::row_dots;
 ghost use mathlib.Core.Path.{_≡_};
-ghost use Prim.Native.Nat.{_+_, _*_, _-_, _/_, _%_, _<_, _≤_};
+ghost use mathlib.Core.Bool.{_&&_};
+ghost use Prim.Native.Nat.{_+_, _*_, _-_, _<_, _≤_};
 ghost use lib.ListN.{length, getD};
 ghost use Rattle.base.specs.Lists.{upto};
 ghost use Rattle.base.specs.Painting.{painted, everywhere, between};
-ghost use mathlib.Core.Bool.{_&&_};
-ghost use Rattle.glyph.specs.Dots.{Inside, hasHalf};
-ghost use Rattle.glyph.specs.Tiles.{tileDots, beside};
-ghost use Rattle.glyph.specs.declared.Content.the-variants.{Halves};
+ghost use Rattle.glyph.specs.Dots.{hasHalf, halfByte};
+ghost use Rattle.glyph.specs.Tiles.{Inside, tileDots, beside};
+ghost use Rattle.glyph.specs.declared.Content.the-variants.{Halves, Blank};
 
 // Sixteen bytes that lie together.
 fn taken(from: &[u8], at: usize) -> [u8; 16]
@@ -18,9 +17,10 @@ fn taken(from: &[u8], at: usize) -> [u8; 16]
     ensures { λ r. ⌜ r ≡ upto 16 (λ i. getD (now (from .entry)) (at + i) 0) ⌝ }
 {
     let mut block = [0u8; 16];
-    let mut i: usize = 0;
+    let mut i: u32 = 0;
     while i < 16 {
-        block[i] = from[at + i];
+        let k = i as usize;
+        block[k] = from[at + k];
         i += 1;
     }
     block
@@ -30,9 +30,10 @@ fn store(tiles: &mut [u8], to: usize, block: [u8; 16])
     requires { ⌜ to + 16 ≤ length (now tiles) ⌝ }
     ensures { λ _. ⌜ now (tiles .exit) ≡ painted (between to (to + 16) everywhere) (λ i. getD block (i - to) 0) (now (tiles .entry)) ⌝ }
 {
-    let mut i: usize = 0;
+    let mut i: u32 = 0;
     while i < 16 {
-        tiles[to + i] = block[i];
+        let k = i as usize;
+        tiles[to + k] = block[k];
         i += 1;
     }
 }
@@ -51,31 +52,11 @@ fn store_beside(tiles: &mut [u8], to: usize, left: [u8; 16], right: [u8; 16])
     requires { ⌜ to + 32 ≤ length (now tiles) ⌝ }
     ensures { λ _. ⌜ now (tiles .exit) ≡ painted (between to (to + 32) everywhere) (λ i. beside left right (i - to)) (now (tiles .entry)) ⌝ }
 {
-    let mut y: usize = 0;
+    let mut y: u32 = 0;
     while y < 16 {
-        tiles[to + 2 * y] = left[y];
-        tiles[to + 2 * y + 1] = right[y];
-        y += 1;
-    }
-}
-
-// Any content, row by row.
-fn lay_rows(
-    content: Content,
-    tiles: &mut [u8],
-    to: usize,
-    glyph: &[u8; 128],
-    half: &[u8],
-    full: &[u8],
-)
-    requires { ⌜ (to + 32 ≤ length (now tiles)) × (length (now half) ≡ 2048) × Inside content (length (now full)) ⌝ }
-    ensures { λ _. ⌜ now (tiles .exit) ≡ painted (between to (to + 32) everywhere) (λ i. tileDots (now (half .entry)) (now (full .entry)) (now (glyph .entry)) content (i - to)) (now (tiles .entry)) ⌝ }
-{
-    let mut y: usize = 0;
-    while y < 16 {
-        let dots = row_dots(content, y, glyph, half, full);
-        tiles[to + 2 * y] = dots.left;
-        tiles[to + 2 * y + 1] = dots.right;
+        let k = y as usize;
+        tiles[to + 2 * k] = left[k];
+        tiles[to + 2 * k + 1] = right[k];
         y += 1;
     }
 }
@@ -96,18 +77,21 @@ fn both_shown(high: u8, low: u8) -> bool
     if shown(high) { shown(low) } else { false }
 }
 
-// Two half glyphs; where one of them is blank, row by row.
-fn lay_halves(
-    high: u8,
-    low: u8,
-    tiles: &mut [u8],
-    to: usize,
-    glyph: &[u8; 128],
-    half: &[u8],
-    full: &[u8],
-)
+// The sixteen bytes of a code's half glyph; blank where it has none.
+fn column(code: u8, half: &[u8]) -> [u8; 16]
+    requires { ⌜ length (now half) ≡ 2048 ⌝ }
+    ensures { λ r. ⌜ r ≡ upto 16 (halfByte (now (half .entry)) code) ⌝ }
+{
+    if shown(code) {
+        return taken(half, 16 * (code as usize));
+    }
+    [0u8; 16]
+}
+
+// Two half glyphs. Where both are there, as almost always, nothing more is asked of either.
+fn lay_halves(high: u8, low: u8, tiles: &mut [u8], to: usize, half: &[u8])
     requires { ⌜ (to + 32 ≤ length (now tiles)) × (length (now half) ≡ 2048) ⌝ }
-    ensures { λ _. ⌜ now (tiles .exit) ≡ painted (between to (to + 32) everywhere) (λ i. tileDots (now (half .entry)) (now (full .entry)) (now (glyph .entry)) (Halves high low) (i - to)) (now (tiles .entry)) ⌝ }
+    ensures { λ _. ⌜ now (tiles .exit) ≡ painted (between to (to + 32) everywhere) (λ i. beside (upto 16 (halfByte (now (half .entry)) high)) (upto 16 (halfByte (now (half .entry)) low)) (i - to)) (now (tiles .entry)) ⌝ }
 {
     if both_shown(high, low) {
         let left = taken(half, 16 * (high as usize));
@@ -115,7 +99,17 @@ fn lay_halves(
         store_beside(tiles, to, left, right);
         return;
     }
-    lay_rows(Content::Halves { high, low }, tiles, to, glyph, half, full);
+    let left = column(high, half);
+    let right = column(low, half);
+    store_beside(tiles, to, left, right);
+}
+
+fn lay_blank(tiles: &mut [u8], to: usize)
+    requires { ⌜ to + 32 ≤ length (now tiles) ⌝ }
+    ensures { λ _. ⌜ now (tiles .exit) ≡ painted (between to (to + 32) everywhere) (λ i. 0) (now (tiles .entry)) ⌝ }
+{
+    store(tiles, to, [0u8; 16]);
+    store(tiles, to + 16, [0u8; 16]);
 }
 
 // What a cell shows, as the tile that begins at `to`.
@@ -133,7 +127,7 @@ pub fn lay(
     match content {
         Content::Image(i) => lay_block(tiles, to, glyph, 32 * (i as usize)),
         Content::Full(n) => lay_block(tiles, to, full, 32 * (n as usize)),
-        Content::Halves { high, low } => lay_halves(high, low, tiles, to, glyph, half, full),
-        Content::Blank => lay_rows(Content::Blank, tiles, to, glyph, half, full),
+        Content::Halves { high, low } => lay_halves(high, low, tiles, to, half),
+        Content::Blank => lay_blank(tiles, to),
     }
 }

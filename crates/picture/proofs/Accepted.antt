@@ -12,7 +12,7 @@ use Rattle.base.proofs.Tests.{or-neither}
 use Rattle.controller.specs.declared.Control.{Control}
 use Rattle.controller.specs.Memories.{Memories}
 use Rattle.picture.specs.Picture.{Seen, pictured}
-use Rattle.picture.specs.Refusals.{refusalOf, leaves, drawn}
+use Rattle.picture.specs.Refusals.{refusalOf, lentRefusal, Fits, drawing, drawn}
 
 pub record Accepted (f h n : ℕ) : Type 0 where
   pub frame : f ≡ 1024
@@ -35,10 +35,10 @@ accepted frame half full =
     })))
 
 module _ (e : Seen) (m : Memories) (c : Control) (frame : List ℕ) where
-  pub draws : refusalOf (length frame) (length (e .half)) (length (e .full)) ≡ 0 → drawn e m c frame ≡ leaves 0 (pictured e m c)
+  pub draws : Fits e frame → drawn e m c frame ≡ drawing 0 (pictured e m c)
   unfolding drawn
-  draws h = rw (eq-eqb (refusalOf (length frame) (length (e .half)) (length (e .full))) 0 h)
+  draws h = rw (eq-eqb (lentRefusal e frame) 0 h)
 
-  pub refuses : (n : ℕ) → n ≡ refusalOf (length frame) (length (e .half)) (length (e .full)) → (n ≡ 0 → ⊥) → drawn e m c frame ≡ leaves n frame
+  pub refuses : (n : ℕ) → n ≡ lentRefusal e frame → (n ≡ 0 → ⊥) → drawn e m c frame ≡ drawing n frame
   unfolding drawn
   refuses n h k = rw (← h, ne-eqb n 0 k)

@@ -1,4 +1,4 @@
--- A line's tiles: laid, marked and reversed, handed out row by row and overlaid, they give the picture.
+-- A line's tiles: laid, marked and reversed, fromTiles out row by row and overlaid, they give the picture.
 use Prim.Native.Nat.{ℕ, _+_, _*_, _-_, _/_, _%_, _<_, _≤_}
 use mathlib.Core.Path.{_≡_, refl, sym, ap, ap₂, _∙_}
 use mathlib.Core.Logic.{_≢_, ⊎-elim}
@@ -13,42 +13,22 @@ use borrow.Author.Tests.{eqb-true, eqb-false, eq-eqb, ne-eqb, ltb-true, ltb-fals
 use Rattle.base.specs.Choice.{if_then_else_}
 use Rattle.base.specs.Lists.{upto}
 use Rattle.base.specs.Painting.{painted, everywhere, between}
+use Rattle.base.specs.Layout.{on, wholeOn, paintedOn}
 use Rattle.base.proofs.Choice.{either-told}
-use Rattle.base.proofs.Tests.{alike, and-both, or-either, or-else, never}
-use Rattle.base.proofs.Lists.{length-upto, getD-upto, is-upto, upto-cong}
-use Rattle.base.proofs.Painting.{painted-length, painted-at, painted-named, painted-other, is-painted, painted-cong, painted-twice}
-use Rattle.base.proofs.Loops.{in-between, of-between, paint-step, paint-every}
-use Rattle.glyph.proofs.Copies.{one-further, two-further}
+use Rattle.base.proofs.Tests.{alike, and-both, or-either, or-else}
+use Rattle.base.proofs.Lists.{getD-upto, upto-cong}
+use Rattle.base.proofs.Painting.{painted-named, painted-same, painted-cong, painted-twice, painted-upto, as-long}
+use Rattle.base.proofs.Loops.{in-between, of-between, paint-step}
+use Rattle.base.proofs.Copies.{one-further, two-further, not-yet}
 use Rattle.picture.specs.declared.Look.{Look}
 use Rattle.controller.specs.Memories.{Memories, half}
 use Rattle.controller.specs.Glass.{shownRow, shownWord}
-use Rattle.picture.specs.Picture.{Fonts, right, atPlace, atCounter, effectsOf, cellByte, graphicByte, filled, inverted, overlaid, darkened, shaded, byteAt, picture}
-use Rattle.picture.specs.Strip.{counterWord}
-use Rattle.picture.specs.Tiles.{wordDots, lineWord, tileByte, handed, bandEnd, shownBy, pairBy}
-use Rattle.glyph.specs.declared.Pair.{Pair}
-use Rattle.picture.proofs.Strips.{counter-here, shown-word-lt}
+use Rattle.picture.specs.Picture.{Fonts, right, atCounter, effectsOf, cellByte, graphicByte, filled, inverted, overlaid, darkened, shaded, byteOver, byteAt, wide, picture}
+use Rattle.picture.specs.Tiles.{counterWord, wordDots, lineWord, tileByte, byTile, fromTiles, inRows, bandEnd, shownBy, pairBy}
+use Rattle.picture.specs.declared.Pair.{Pair}
+use Rattle.picture.proofs.Bytes.{counter-here, shown-word-lt}
 use Rattle.picture.proofs.Unread.{half-right}
-use Rattle.picture.proofs.CellRows.{rows-turn}
-
--- a place that is not painted yet holds what it held
-pub not-yet : (b : ℕ → ℕ) (f g : List ℕ) (a n : ℕ) → n < length f → g ≡ painted (between a n everywhere) b f → getD g n 0 ≡ getD f n 0
-not-yet b f g a n l c =
-    ap (λ (k : List ℕ). getD k n 0) c
-    ∙ painted-other _ b f n l (never _ (λ e. let q = in-between a n everywhere n e in omega arith))
-
--- painting with what is there changes nothing
-pub painted-kept : (P : ℕ → Bool) (f : List ℕ) → f ≡ painted P (λ i. getD f i 0) f
-painted-kept P f = is-painted P (λ i. getD f i 0) f f refl (λ i l. by (P i))
-  where
-    by : (t : Bool) {x : ℕ} → x ≡ (if t then x else x)
-    by true = refl
-    by false = refl
-
--- a list given by its bytes, painted
-pub painted-upto : (P : ℕ → Bool) (b f : ℕ → ℕ) (n : ℕ) → painted P b (upto n f) ≡ upto n (λ i. if P i then b i else f i)
-painted-upto P b f n =
-    is-upto n _ (painted P b (upto n f)) (painted-length P b (upto n f) ∙ length-upto n f)
-    (λ i l. painted-at P b (upto n f) i (rw (length-upto n f) l) ∙ ap (λ (x : ℕ). if P i then b i else x) (getD-upto n f i l))
+use Rattle.picture.proofs.Wide.{rows-lie}
 
 inverted-upto : (P : ℕ → Bool) (f : ℕ → ℕ) (n : ℕ) → painted P (λ i. 0xFF - getD (upto n f) i 0) (upto n f) ≡ upto n (λ i. inverted (P i) (f i))
 inverted-upto P f n =
@@ -67,33 +47,31 @@ marked n f P Q R t u v w a b c d =
     let second : v ≡ upto n (λ i. inverted (Q i) (filled (P i) (f i))) = (rw first at c) ∙ inverted-upto Q (λ i. filled (P i) (f i)) n in
     (rw second at d) ∙ inverted-upto R (λ i. inverted (Q i) (filled (P i) (f i))) n
 
-pub as-long : (P : ℕ → Bool) (b : ℕ → ℕ) (f g : List ℕ) → g ≡ painted P b f → length g ≡ length f
-as-long P b f g e = ap length e ∙ painted-length P b f
-
 -- one cell further: its tile begins at a multiple of 32
 pub words-turn : (d : ℕ → ℕ → ℕ) (cell : ℕ) (f g h : List ℕ)
-    → g ≡ painted (between 0 (32 * cell) everywhere) (atPlace d) f
+    → g ≡ painted (between 0 (32 * cell) everywhere) (byTile d) f
     → h ≡ painted (between (32 * cell) (32 * cell + 32) everywhere) (λ i. d cell (i - 32 * cell)) g
-    → h ≡ painted (between 0 (32 * (cell + 1)) everywhere) (atPlace d) f
+    → h ≡ painted (between 0 (32 * (cell + 1)) everywhere) (byTile d) f
 words-turn d cell f g h c e =
-    rows-turn (atPlace d) cell f g h c
-    (e ∙ painted-cong _ _ _ (atPlace d) g (λ i l. refl)
+    let next : 32 * (cell + 1) ≡ 32 * cell + 32 = omega arith in
+    rw next (paint-step everywhere (byTile d) f g h 0 (32 * cell) (32 * cell + 32) (omega arith) (omega arith) c
+    (e ∙ painted-cong _ _ _ (byTile d) g (λ i l. refl)
     (λ i l t. let q = in-between (32 * cell) (32 * cell + 32) everywhere i t in
     let a : cell ≡ i / 32 = omega arith in
     let b : i - 32 * cell ≡ i % 32 = omega arith in
-    ap₂ d a b))
+    ap₂ d a b)))
 
 -- the two bytes of a cell that a row takes
-pub handed-left : (tiles : List ℕ) (y row cell : ℕ) → cell < 16 → getD tiles (32 * cell + 2 * y) 0 ≡ handed tiles y (32 * row + 2 * cell)
-handed-left tiles y row cell h =
+pub taken-left : (tiles : List ℕ) (y row cell : ℕ) → cell < 16 → getD tiles (32 * cell + 2 * y) 0 ≡ fromTiles tiles y (32 * row + 2 * cell)
+taken-left tiles y row cell h =
     let a : (32 * row + 2 * cell) % 32 ≡ 2 * cell = omega arith in
     let b : 2 * cell / 2 ≡ cell = omega arith in
     let d : (32 * row + 2 * cell) % 2 ≡ 0 = omega arith in
     let k : 32 * cell + 2 * y ≡ 32 * ((32 * row + 2 * cell) % 32 / 2) + 2 * y + (32 * row + 2 * cell) % 2 = rw (a, b, d) (sym (add-zero _)) in
     ap (λ (n : ℕ). getD tiles n 0) k
 
-pub handed-right : (tiles : List ℕ) (y row cell : ℕ) → cell < 16 → getD tiles (32 * cell + 2 * y + 1) 0 ≡ handed tiles y (32 * row + 2 * cell + 1)
-handed-right tiles y row cell h =
+pub taken-right : (tiles : List ℕ) (y row cell : ℕ) → cell < 16 → getD tiles (32 * cell + 2 * y + 1) 0 ≡ fromTiles tiles y (32 * row + 2 * cell + 1)
+taken-right tiles y row cell h =
     let a : (32 * row + 2 * cell + 1) % 32 ≡ 2 * cell + 1 = omega arith in
     let b : (2 * cell + 1) / 2 ≡ cell = omega arith in
     let d : (32 * row + 2 * cell + 1) % 2 ≡ 1 = omega arith in
@@ -102,16 +80,16 @@ handed-right tiles y row cell h =
 
 -- one row further
 pub out-turn : (tiles : List ℕ) (scroll row r : ℕ) (f g h : List ℕ) → row ≤ r
-    → g ≡ painted (between (32 * row) (32 * r) everywhere) (λ i. handed tiles ((i / 32 + scroll) % 16) i) f
-    → h ≡ painted (between (32 * r) (32 * r + 32) everywhere) (handed tiles ((r + scroll) % 16)) g
-    → h ≡ painted (between (32 * row) (32 * (r + 1)) everywhere) (λ i. handed tiles ((i / 32 + scroll) % 16) i) f
+    → g ≡ painted (between (32 * row) (32 * r) everywhere) (λ i. fromTiles tiles ((i / 32 + scroll) % 16) i) f
+    → h ≡ painted (between (32 * r) (32 * r + 32) everywhere) (fromTiles tiles ((r + scroll) % 16)) g
+    → h ≡ painted (between (32 * row) (32 * (r + 1)) everywhere) (λ i. fromTiles tiles ((i / 32 + scroll) % 16) i) f
 out-turn tiles scroll row r f g h l c e =
     let next : 32 * (r + 1) ≡ 32 * r + 32 = omega arith in
-    rw next (paint-step everywhere (λ i. handed tiles ((i / 32 + scroll) % 16) i) f g h (32 * row) (32 * r) (32 * r + 32) (omega arith) (omega arith) c
-    (e ∙ painted-cong _ _ _ (λ i. handed tiles ((i / 32 + scroll) % 16) i) g (λ i l. refl)
+    rw next (paint-step everywhere (λ i. fromTiles tiles ((i / 32 + scroll) % 16) i) f g h (32 * row) (32 * r) (32 * r + 32) (omega arith) (omega arith) c
+    (e ∙ painted-cong _ _ _ (λ i. fromTiles tiles ((i / 32 + scroll) % 16) i) g (λ i l. refl)
     (λ i l t. let q = in-between (32 * r) (32 * r + 32) everywhere i t in
     let a : r ≡ i / 32 = omega arith in
-    ap (λ (n : ℕ). handed tiles ((n + scroll) % 16) i) a)))
+    ap (λ (n : ℕ). fromTiles tiles ((n + scroll) % 16) i) a)))
 
 -- one byte of the graphic further
 pub over-turn : (graphic f g : List ℕ) (from to n : ℕ) → to + n < length f
@@ -220,13 +198,13 @@ module _ (e : Fonts) (text glyph : List ℕ) (look : Look) where
         ))
 
     pub line-marked : (t u v w : List ℕ)
-        → t ≡ upto 512 (atPlace (λ cell j. wordDots e text glyph (lineWord (look .view .shift) line cell) j))
+        → t ≡ upto 512 (byTile (λ cell j. wordDots e text glyph (lineWord (look .view .shift) line cell) j))
         → u ≡ painted (λ i. (here && look .cursor) && (eqb i (at + 30) || eqb i (at + 30 + 1))) (λ i. 0xFF) t
         → v ≡ painted (λ i. (here && look .blink) && between at (at + 32) everywhere i) (λ i. 0xFF - getD u i 0) u
         → w ≡ painted (λ i. getD (look .view .reversed) line false && between 0 512 everywhere i) (λ i. 0xFF - getD v i 0) v
-        → w ≡ upto 512 (atPlace (λ cell j. tileByte e text glyph look (lineWord (look .view .shift) line cell) j))
+        → w ≡ upto 512 (byTile (λ cell j. tileByte e text glyph look (lineWord (look .view .shift) line cell) j))
     line-marked t u v w a b d g =
-        marked 512 (atPlace (λ cell j. wordDots e text glyph (lineWord (look .view .shift) line cell) j))
+        marked 512 (byTile (λ cell j. wordDots e text glyph (lineWord (look .view .shift) line cell) j))
         (λ i. (here && look .cursor) && (eqb i (at + 30) || eqb i (at + 30 + 1)))
         (λ i. (here && look .blink) && between at (at + 32) everywhere i)
         (λ i. getD (look .view .reversed) line false && between 0 512 everywhere i) t u v w a b d g
@@ -269,10 +247,6 @@ module _ (e : Fonts) (text glyph : List ℕ) (look : Look) where
         (λ i. (marks && look .blink) && between 0 32 everywhere i)
         (λ i. getD (look .view .reversed) (word / 16) false && between 0 32 everywhere i) t u v w a b d g
         ∙ upto-cong 32 _ _ (λ i l. tile-byte i l)
-
--- a tile by itself
-pub first-tile : (d : ℕ → ℕ) (f t : List ℕ) → length f ≡ 32 → t ≡ painted (between 0 32 everywhere) (λ i. d (i - 0)) f → t ≡ upto 32 d
-first-tile d f t size e = paint-every (λ i. d (i - 0)) f t 32 size e ∙ upto-cong 32 _ d (λ i l. let k : i - 0 ≡ i = omega arith in ap d k)
 
 -- the rows of a band show one line, one after the other
 pub band-bounds : (row s : ℕ) → row < 32 → (row < bandEnd row s) × (bandEnd row s ≤ 32) × (bandEnd row s + s % 16 ≤ row + 16)
@@ -331,16 +305,16 @@ alight d x h = rw h
 
 module _ (e : Fonts) (m : Memories) (look : Look) where
   -- where nothing shows
-  pub dark-picture : look .dark ≡ true → upto 1024 (λ i. 0) ≡ picture e m look
-  unfolding picture byteAt shaded effectsOf
+  pub dark-picture : look .dark ≡ true → upto 1024 (λ i. 0) ≡ picture wide e m look
+  unfolding picture byteAt byteOver shaded effectsOf
   dark-picture h = upto-cong 1024 _ _ (λ i l. rw h)
 
   -- a byte of the picture is the tile's, with the graphic over it
   byte-by-tile : (row column : ℕ) → byteAt e m look row column
       ≡ darkened (look .dark)
-      (overlaid (look .graphic) (graphicByte m (look .view) row column)
+      (overlaid (look .graphic) (graphicByte (m .graphic) (look .view) row column)
       (tileByte e (m .text) (m .glyph) look (shownWord (look .view) row (column / 2)) (2 * (shownRow (look .view) row % 16) + column % 2)))
-  unfolding byteAt shaded effectsOf cellByte tileByte shownWord
+  unfolding byteAt byteOver shaded effectsOf cellByte tileByte shownWord
   byte-by-tile row column =
       let s = shownRow (look .view) row in
       let a : (2 * (s % 16) + column % 2) / 2 ≡ s % 16 = omega arith in
@@ -350,7 +324,7 @@ module _ (e : Fonts) (m : Memories) (look : Look) where
 
   pub byte-shown-by : (tile : List ℕ) (word row column : ℕ) → tile ≡ upto 32 (tileByte e (m .text) (m .glyph) look word)
       → word ≡ shownWord (look .view) row (column / 2) → shownBy tile (m .graphic) look row column ≡ byteAt e m look row column
-  unfolding shownBy graphicByte
+  unfolding shownBy
   byte-shown-by tile word row column t w =
       let j = 2 * (shownRow (look .view) row % 16) + column % 2 in
       rw (t, getD-upto 32 (tileByte e (m .text) (m .glyph) look word) j (omega arith), w) (sym (byte-by-tile row column))
@@ -361,11 +335,11 @@ module _ (e : Fonts) (m : Memories) (look : Look) where
       s = (row + look .view .scroll) % 64
 
       abbrev line : ℕ → ℕ
-      line = atPlace (λ cell j. tileByte e (m .text) (m .glyph) look (lineWord (look .view .shift) (s / 16) cell) j)
+      line = byTile (λ cell j. tileByte e (m .text) (m .glyph) look (lineWord (look .view .shift) (s / 16) cell) j)
 
       band-byte : (tiles : List ℕ) (i : ℕ) → tiles ≡ upto 512 line → 32 * row ≤ i → i < 32 * end
-          → overlaid (look .graphic) (getD (m .graphic) (32 * s + (i - 32 * row)) 0) (handed tiles ((i / 32 + look .view .scroll) % 16) i)
-          ≡ atPlace (byteAt e m look) i
+          → overlaid (look .graphic) (getD (m .graphic) (32 * s + (i - 32 * row)) 0) (fromTiles tiles ((i / 32 + look .view .scroll) % 16) i)
+          ≡ on wide (byteAt e m look) i
       unfolding graphicByte shownRow shownWord
       band-byte tiles i t l k =
           let r : row ≤ i / 32 = omega arith in
@@ -385,24 +359,20 @@ module _ (e : Fonts) (m : Memories) (look : Look) where
 
       pub band-painted : (tiles f g h : List ℕ)
           → tiles ≡ upto 512 line
-          → g ≡ painted (between (32 * row) (32 * end) everywhere) (λ i. handed tiles ((i / 32 + look .view .scroll) % 16) i) f
+          → g ≡ painted (between (32 * row) (32 * end) everywhere) (λ i. fromTiles tiles ((i / 32 + look .view .scroll) % 16) i) f
           → h ≡ painted (between (32 * row) (32 * row + 32 * (end - row)) everywhere) (λ i. overlaid (look .graphic) (getD (m .graphic) (32 * s + (i - 32 * row)) 0) (getD g i 0)) g
-          → h ≡ painted (between (32 * row) (32 * end) everywhere) (atPlace (byteAt e m look)) f
+          → h ≡ paintedOn wide (inRows row end) (byteAt e m look) f
       band-painted tiles f g h t a b =
           let last : 32 * row + 32 * (end - row) ≡ 32 * end = omega arith in
           let B : ℕ → Bool = between (32 * row) (32 * end) everywhere in
-          let out : ℕ → ℕ = λ i. handed tiles ((i / 32 + look .view .scroll) % 16) i in
+          let out : ℕ → ℕ = λ i. fromTiles tiles ((i / 32 + look .view .scroll) % 16) i in
           (rw last at b)
-          ∙ painted-cong B B (λ i. overlaid (look .graphic) (getD (m .graphic) (32 * s + (i - 32 * row)) 0) (getD g i 0)) (atPlace (byteAt e m look)) g (λ i l. refl)
+          ∙ painted-cong B B (λ i. overlaid (look .graphic) (getD (m .graphic) (32 * s + (i - 32 * row)) 0) (getD g i 0)) (on wide (byteAt e m look)) g (λ i l. refl)
           (λ i l u. let q = in-between (32 * row) (32 * end) everywhere i u in
           let v : getD g i 0 ≡ out i = ap (λ (x : List ℕ). getD x i 0) a ∙ painted-named B out f i (rw (← as-long B out f g a) l) u in
           ap (overlaid (look .graphic) (getD (m .graphic) (32 * s + (i - 32 * row)) 0)) v ∙ band-byte tiles i t (q .0) (q .1))
-          ∙ ap (painted B (atPlace (byteAt e m look))) a ∙ painted-twice B out (atPlace (byteAt e m look)) f
-
--- one band further
-pub bands-turn : (b : ℕ → ℕ) (row end : ℕ) (f g h : List ℕ) → row < end → g ≡ painted (between 0 (32 * row) everywhere) b f
-    → h ≡ painted (between (32 * row) (32 * end) everywhere) b g → h ≡ painted (between 0 (32 * end) everywhere) b f
-bands-turn b row end f g h l c e = paint-step everywhere b f g h 0 (32 * row) (32 * end) (omega arith) (omega arith) c e
+          ∙ ap (painted B (on wide (byteAt e m look))) a ∙ painted-twice B out (on wide (byteAt e m look)) f
+          ∙ painted-same B _ (on wide (byteAt e m look)) f (λ i l. rows-lie row end i)
 
 abbrev pub pairOf : ℕ → ℕ → Pair
 pairOf left right = record { left = left; right = right }
@@ -415,7 +385,7 @@ pub pair-shown-by : (tile graphic : List ℕ) (look : Look) (row cell : ℕ)
     (darkened (look .dark)
     (overlaid (look .graphic) (getD graphic (32 * ((row + look .view .scroll) % 64) + 2 * cell + 1) 0) (getD tile (2 * ((row + look .view .scroll) % 64 % 16) + 1) 0)))
     ≡ pairBy tile graphic look row cell
-unfolding shownBy shownRow
+unfolding shownBy graphicByte shownRow
 pair-shown-by tile graphic look row cell =
     let a : 2 * cell / 2 ≡ cell = omega arith in
     let b : 2 * cell % 2 ≡ 0 = omega arith in

@@ -1,7 +1,7 @@
 pub mod Parts
 pub mod Unread
-pub mod Strips
-pub mod CellRows
+pub mod Wide
+pub mod Bytes
 pub mod Accepted
 pub mod Masks
 pub mod Commute

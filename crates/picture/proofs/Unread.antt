@@ -4,15 +4,17 @@ use mathlib.Core.Path.{_≡_, refl, sym, _∙_}
 use mathlib.Core.Logic.{_≢_}
 use mathlib.Core.Bool.{Bool, true, false, true≢false}
 use native.Mathlib.Omega.{arith}
-use lib.ListN.{set, length}
+use lib.ListN.{set, length, getD}
+use lib.Dec.{eqb}
 use lib.Seq.{getD-set-other}
 use borrow.Author.Tests.{eq-eqb, eqb-true, eqb-false}
 use Rattle.controller.specs.declared.View.{View}
 use Rattle.controller.specs.Memories.{Memories, memories, half, wordPlace, imageRow, graphicPlace}
-use Rattle.controller.specs.Glass.{shownRow, shownWord, wordImage}
+use Rattle.controller.specs.Glass.{shownRow, shownWord, wordImage, isImage}
 use Rattle.controller.specs.Named.{showsGlyph, showsGraphic}
 use Rattle.controller.proofs.Halves.{half-le}
-use Rattle.glyph.proofs.Unread.{glyph-unread}
+use Rattle.base.proofs.Tests.{and-both}
+use Rattle.glyph.proofs.Unread.{glyph-unread, image-shown}
 use Rattle.picture.specs.Picture.{Fonts, right, wordContent, cellByte, graphicByte}
 
 pub half-right : (column : ℕ) → half (right column) ≡ column % 2
@@ -47,7 +49,7 @@ module _ (e : Fonts) (m : Memories) (v : View) (row column : ℕ) where
       true≢false (sym (rw (shown, eq-eqb (shownRow v row % 16) (word % 16) (omega arith), eq-eqb i (word / 16) (omega arith), eq-eqb (column % 2) (half low) h)) ∙ n))
 
   pub graphic-unshown : (y k : ℕ) (low : Bool) (b : ℕ) → column < 32 → k < 16 → showsGraphic v y k low row column ≡ false
-      → graphicByte (memories (m .text) (m .glyph) (set (m .graphic) (graphicPlace y k low) b)) v row column ≡ graphicByte m v row column
+      → graphicByte (set (m .graphic) (graphicPlace y k low) b) v row column ≡ graphicByte (m .graphic) v row column
   unfolding graphicByte showsGraphic
   graphic-unshown y k low b columns words n =
       getD-set-other (m .graphic) (graphicPlace y k low) (graphicPlace (shownRow v row) (column / 2) (right column)) b 0
@@ -56,3 +58,15 @@ module _ (e : Fonts) (m : Memories) (v : View) (row column : ℕ) where
       let s : shownRow v row ≡ y = omega arith in
       let c : column ≡ 2 * k + half low = omega arith in
       true≢false (sym (rw (eq-eqb (shownRow v row) y s, eq-eqb column (2 * k + half low) c)) ∙ n))
+
+  -- a byte that shows a half of a glyph word has its dots
+  pub glyph-shown : (word : ℕ) (low : Bool) → showsGlyph v (m .text) word low row column ≡ true → cellByte e m v row column ≡ getD (m .glyph) (wordPlace word low) 0
+  unfolding cellByte wordContent showsGlyph wordImage
+  glyph-shown word low t =
+      let q = and-both (eqb (shownRow v row % 16) (word % 16)) _ t in
+      let i = wordImage (m .text) (shownWord v row (column / 2)) in
+      let w = and-both (isImage i (word / 16)) (eqb (column % 2) (half low)) (q .1) in
+      let y : shownRow v row % 16 ≡ word % 16 = eqb-true _ _ (q .0) in
+      let s : half (right column) ≡ half low = half-right column ∙ eqb-true _ _ (w .1) in
+      image-shown (e .half) (e .full) (m .glyph) _ _ (length (e .full)) (shownRow v row % 16) (right column) (word / 16) (wordPlace word low) (w .0)
+      (let p : 2 * (16 * (word / 16) + shownRow v row % 16) + half (right column) ≡ 2 * word + half low = omega arith in p)

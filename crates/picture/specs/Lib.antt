@@ -1,4 +1,3 @@
 pub mod Picture
 pub mod Refusals
-pub mod Strip
 pub mod Tiles

@@ -8,7 +8,7 @@ use lib.Dec.{eqb}
 use lib.Bits.{bitXor}
 use denote.Ref.{now}
 use Rattle.base.specs.Choice.{if_then_else_}
-use Rattle.base.specs.Lists.{upto}
+use Rattle.base.specs.Layout.{Layout, wholeOn}
 use Rattle.controller.specs.declared.View.{View}
 use Rattle.controller.specs.declared.Cell.{Cell}
 use Rattle.controller.specs.declared.Cell.the-variants.{Nowhere, Word}
@@ -17,7 +17,6 @@ use Rattle.controller.specs.Memories.{Memories, Lent, wordPlace, graphicPlace}
 use Rattle.controller.specs.Named.{counterCell}
 use Rattle.controller.specs.Glass.{shownRow, shownWord}
 use Rattle.glyph.specs.declared.Content.{Content}
-use Rattle.glyph.specs.declared.Pair.{Pair}
 use Rattle.glyph.specs.Lookup.{contentOf}
 use Rattle.glyph.specs.Dots.{dotsOf}
 use Rattle.picture.specs.declared.Effects.{Effects}
@@ -72,8 +71,8 @@ cellByte e m v row column =
     (shownRow v row % 16) (right column)
 
 -- graphic row s, unshifted
-unfoldable pub graphicByte : Memories → View → ℕ → ℕ → ℕ
-graphicByte m v row column = getD (m .graphic) (graphicPlace (shownRow v row) (column / 2) (right column)) 0
+unfoldable pub graphicByte : List ℕ → View → ℕ → ℕ → ℕ
+graphicByte graphic v row column = getD graphic (graphicPlace (shownRow v row) (column / 2) (right column)) 0
 
 -- at the counter's word, if target is text
 abbrev pub atCounter : Cell → ℕ → Bool
@@ -117,27 +116,22 @@ unfoldable pub shaded : Effects → ℕ → ℕ → ℕ
 shaded e cell dots =
     darkened (e .dark) (overlaid (e .graphic) dots (inverted (e .reverse) (inverted (e .blink) (filled (e .cursor) cell))))
 
--- byte `column` of row `row` of the glass
-unfoldable pub byteAt : Fonts → Memories → Look → ℕ → ℕ → ℕ
-byteAt e m look row column =
-    shaded (effectsAt look row (column / 2)) (cellByte e m (look .view) row column) (graphicByte m (look .view) row column)
+-- byte `column` of row `row` of the glass, where its cell has these dots
+unfoldable pub byteOver : ℕ → List ℕ → Look → ℕ → ℕ → ℕ
+byteOver dots graphic look row column = shaded (effectsAt look row (column / 2)) dots (graphicByte graphic (look .view) row column)
 
--- a frame's place i is row i / 32, column i mod 32 of the glass
-abbrev pub atPlace : {A : Type 0} → (ℕ → ℕ → A) → ℕ → A
-atPlace f i = f (i / 32) (i % 32)
+-- and as the cell has them
+unfoldable pub byteAt : Fonts → Memories → Look → ℕ → ℕ → ℕ
+byteAt e m look row column = byteOver (cellByte e m (look .view) row column) (m .graphic) look row column
 
 -- 32 rows of 32 bytes
-unfoldable pub picture : Fonts → Memories → Look → List ℕ
-picture e m look = upto 1024 (atPlace (byteAt e m look))
+abbrev pub wide : Layout
+wide = record { size = 1024; row = λ i. i / 32; column = λ i. i % 32 }
+
+-- the picture, as the frame of a glass shows it
+unfoldable pub picture : Layout → Fonts → Memories → Look → List ℕ
+picture l e m look = wholeOn l (byteAt e m look)
 
 -- the picture of a state, as a call sees it
 abbrev pub pictured : Seen → Memories → Control → List ℕ
-pictured e m c = picture (fontsOf e) m (lookOf (e .phase) c)
-
--- for the painter of a cell's row: the row's two bytes
-abbrev pub cellPair : Fonts → Memories → Look → ℕ → ℕ → Pair
-cellPair e m look row cell = record { left = byteAt e m look row (2 * cell); right = byteAt e m look row (2 * cell + 1) }
-
--- and which bytes of the glass they are
-abbrev pub inCellRow : ℕ → ℕ → ℕ → ℕ → Bool
-inCellRow row cell r column = eqb r row && eqb (column / 2) cell
+pictured e m c = picture wide (fontsOf e) m (lookOf (e .phase) c)

@@ -2,6 +2,7 @@
 use Prim.Native.Nat.{ℕ, _%_}
 use mathlib.Core.Bool.{not, _||_}
 use mathlib.Core.List.{List}
+use mathlib.Core.Path.{_≡_}
 use lib.ListN.{length}
 use lib.Dec.{eqb, ltb}
 use Rattle.base.specs.Choice.{if_then_else_}
@@ -17,17 +18,22 @@ refusalOf frame half full =
     else if not (eqb (full % 32) 0) || ltb 267264 full then 3
     else 0
 
+-- the number of what a call is lent
+abbrev pub lentRefusal : Seen → List ℕ → ℕ
+lentRefusal e frame = refusalOf (length frame) (length (e .half)) (length (e .full))
+
+-- frame and fonts have the lengths that refusals 1, 2 and 3 ask for
+abbrev pub Fits : Seen → List ℕ → Type 0
+Fits e frame = lentRefusal e frame ≡ 0
+
 -- what a drawing leaves: its number and the frame
 pub record Drawn : Type 0 where
   pub number : ℕ
   pub frame : List ℕ
 
-abbrev pub leaves : ℕ → List ℕ → Drawn
-leaves number frame = record { number = number; frame = frame }
+abbrev pub drawing : ℕ → List ℕ → Drawn
+drawing number frame = record { number = number; frame = frame }
 
 -- a refusal returns its number and changes no buffer; an accepted call answers 0, and the frame is the picture
-abbrev pub drawnBy : ℕ → Seen → Memories → Control → List ℕ → Drawn
-drawnBy number e m c frame = if eqb number 0 then leaves 0 (pictured e m c) else leaves number frame
-
 unfoldable pub drawn : Seen → Memories → Control → List ℕ → Drawn
-drawn e m c frame = drawnBy (refusalOf (length frame) (length (e .half)) (length (e .full))) e m c frame
+drawn e m c frame = if eqb (lentRefusal e frame) 0 then drawing 0 (pictured e m c) else drawing (lentRefusal e frame) frame

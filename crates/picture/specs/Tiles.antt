@@ -1,17 +1,24 @@
--- Document 01, "The picture", in the form of the code: the bytes of a cell's sixteen rows at once, its tile, and a line's sixteen tiles
--- one after the other. proofs/Laid.antt shows that they are the bytes of the picture before the graphic.
+-- No sentence of document 01, but what the contracts of the code promise: the bytes of a cell's sixteen rows at once, its tile, and a line's
+-- sixteen tiles one after the other. proofs/Laid.antt shows that they are the bytes of the picture before the graphic.
 use Prim.Native.Nat.{ℕ, _+_, _*_, _-_, _/_, _%_}
-use mathlib.Core.Bool.{true, false, _&&_}
+use mathlib.Core.Bool.{Bool, true, false, _&&_}
 use mathlib.Core.List.{List}
-use lib.ListN.{length, getD}
+use lib.ListN.{length, getD, set}
 use lib.Dec.{eqb, ltb}
 use Rattle.base.specs.Choice.{if_then_else_}
-use Rattle.controller.specs.Memories.{graphicPlace}
+use Rattle.base.specs.Layout.{rows}
+use Rattle.controller.specs.declared.Cell.{Cell}
+use Rattle.controller.specs.declared.Cell.the-variants.{Nowhere, Word}
 use Rattle.controller.specs.Glass.{shownRow}
-use Rattle.glyph.specs.declared.Pair.{Pair}
 use Rattle.glyph.specs.Tiles.{tileDots}
 use Rattle.picture.specs.declared.Look.{Look}
-use Rattle.picture.specs.Picture.{Fonts, right, wordContent, atCounter, filled, inverted, overlaid, darkened}
+use Rattle.picture.specs.declared.Pair.{Pair}
+use Rattle.picture.specs.Picture.{Fonts, wordContent, graphicByte, atCounter, filled, inverted, overlaid, darkened}
+
+-- the counter's word, or 64, which no cell shows
+abbrev pub counterWord : Cell → ℕ
+counterWord Nowhere = 64
+counterWord (Word counter) = counter
 
 -- byte j of the dots of a text word
 abbrev pub wordDots : Fonts → List ℕ → List ℕ → ℕ → ℕ → ℕ
@@ -28,20 +35,34 @@ tileByte e text glyph look word j =
     (inverted (atCounter (look .counter) word && look .blink)
     (filled (atCounter (look .counter) word && (look .cursor && eqb (j / 2) 15)) (wordDots e text glyph word j)))
 
--- the byte that place i of the frame takes from row y of a line's tiles
-abbrev pub handed : List ℕ → ℕ → ℕ → ℕ
-handed tiles y i = getD tiles (32 * (i % 32 / 2) + 2 * y + i % 2) 0
+-- byte i of tiles that lie one after the other
+abbrev pub byTile : (ℕ → ℕ → ℕ) → ℕ → ℕ
+byTile byte i = byte (i / 32) (i % 32)
+
+-- the byte that place i of a wide frame takes from row y of a line's tiles
+abbrev pub fromTiles : List ℕ → ℕ → ℕ → ℕ
+fromTiles tiles y i = getD tiles (32 * (i % 32 / 2) + 2 * y + i % 2) 0
 
 -- the row after those that show the same line as row `row`, which shows memory row s
 unfoldable pub bandEnd : ℕ → ℕ → ℕ
 bandEnd row s = if ltb (row + 16 - s % 16) 32 then row + 16 - s % 16 else 32
 
+-- every byte of the rows from `first` up to `end`
+abbrev pub inRows : ℕ → ℕ → ℕ → ℕ → Bool
+inRows first end = rows first end (λ r c. true)
+
 -- byte `column` of row `row` of the glass, by the tile of its cell
 unfoldable pub shownBy : List ℕ → List ℕ → Look → ℕ → ℕ → ℕ
 shownBy tile graphic look row column =
     darkened (look .dark)
-    (overlaid (look .graphic) (getD graphic (graphicPlace (shownRow (look .view) row) (column / 2) (right column)) 0)
-    (getD tile (2 * (shownRow (look .view) row % 16) + column % 2) 0))
+    (overlaid (look .graphic) (graphicByte graphic (look .view) row column) (getD tile (2 * (shownRow (look .view) row % 16) + column % 2) 0))
 
+-- one row of a cell: its two bytes, by the tile; two bytes stored at a place of a frame and at the next; and which bytes of the glass they are
 abbrev pub pairBy : List ℕ → List ℕ → Look → ℕ → ℕ → Pair
 pairBy tile graphic look row cell = record { left = shownBy tile graphic look row (2 * cell); right = shownBy tile graphic look row (2 * cell + 1) }
+
+abbrev pub pairStored : List ℕ → ℕ → Pair → List ℕ
+pairStored frame place pair = set (set frame place (pair .left)) (place + 1) (pair .right)
+
+abbrev pub inCellRow : ℕ → ℕ → ℕ → ℕ → Bool
+inCellRow row cell r column = eqb r row && eqb (column / 2) cell

@@ -6,9 +6,9 @@ use controller::Control;
 ghost use mathlib.Core.Path.{_≡_};
 ghost use Rattle.controller.specs.Memories.{before};
 ghost use Rattle.picture.specs.Picture.{seen};
-ghost use Rattle.picture.specs.Refusals.{leaves, drawn};
+ghost use Rattle.picture.specs.Refusals.{drawing, drawn};
 
-// Draws into the frame and answers 0, or answers the refusal's number and leaves the frame as it was.
+// Draws into the frame and answers 0, or answers the refusal's number and drawing the frame as it was.
 pub fn draw(
     text: &[u8; 128],
     glyph: &[u8; 128],
@@ -19,7 +19,7 @@ pub fn draw(
     full: &[u8],
     phase: bool,
 ) -> u8
-    ensures { λ r. ⌜ leaves r (now (frame .exit)) ≡ drawn (seen half full phase) (before text glyph graphic) control (now (frame .entry)) ⌝ }
+    ensures { λ r. ⌜ drawing r (now (frame .exit)) ≡ drawn (seen half full phase) (before text glyph graphic) control (now (frame .entry)) ⌝ }
 {
     let number = refusal(frame.len(), half.len(), full.len());
     if number != 0 {

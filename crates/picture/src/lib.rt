@@ -1,5 +1,6 @@
-// The picture, after document 01: what each byte of the glass shows, painted row by row of a cell into a frame that the caller lends.
-// The memories and the fonts are lent too, and only looked at.
+// The picture, after document 01: what each byte of the glass shows, painted into a frame that the caller lends.
+// The memories and the fonts are lent too, and only looked at. Rows, columns, cells and words are counted in 32 bits: on a small core the
+// loops are shorter for it.
 use controller::Cell;
 use controller::View;
 
@@ -7,7 +8,6 @@ pub mod draw;
 pub mod looks;
 pub mod paint;
 pub mod refusals;
-mod rows;
 mod shade;
 pub mod tiles;
 pub mod whole;
@@ -32,17 +32,8 @@ pub(crate) struct Effects {
     pub dark: bool,
 }
 
-// What the cells of one row of the glass have in common.
-pub(crate) struct Strip {
-    // The first text word of the line, and how far the line is shifted.
-    pub first: usize,
-    pub shift: u8,
-    // The glyph row, and where the graphic row begins.
-    pub y: usize,
-    pub start: usize,
-    // The counter's word; 64, which no cell shows, where the target is not text.
-    pub counter: usize,
-    // What is done to the dots at the counter's word, and at every other.
-    pub marked: Effects,
-    pub plain: Effects,
+// The two bytes of one row of a cell.
+pub struct Pair {
+    pub left: u8,
+    pub right: u8,
 }

@@ -1,16 +1,17 @@
-// Painting the picture's bytes into a lent frame of 1,024.
+// Single bytes of the picture, and the painter of one row of a cell.
 use crate::Look;
-use crate::rows::cell_row;
-use crate::rows::strip;
-use glyph::Pair;
+use crate::Pair;
+use crate::shade::counter_word;
+use crate::shade::effects;
+use crate::shade::shade;
+use glyph::dots::dot_byte;
+use glyph::lookup::content;
 ghost use mathlib.Core.Path.{_≡_};
-ghost use Prim.Native.Nat.{_+_, _*_, _<_};
+ghost use Prim.Native.Nat.{_<_};
 ghost use lib.ListN.{length};
-ghost use Rattle.base.specs.Painting.{painted, everywhere, between};
 ghost use Rattle.controller.specs.Memories.{before};
-ghost use Rattle.controller.specs.Glass.{placeOf};
-ghost use Rattle.picture.specs.Picture.{fonts, byteAt, atPlace, cellPair, picture};
-ghost use Rattle.picture.specs.Strip.{stripPair, pairStored, OnGlass};
+ghost use Rattle.picture.specs.Picture.{fonts, byteOver, byteAt};
+ghost use Rattle.picture.specs.Tiles.{pairStored};
 
 // The row painter: it is lent the two bytes of one row of a cell, and nothing else.
 pub fn paint_row(part: &mut [u8], pair: Pair)
@@ -21,42 +22,39 @@ pub fn paint_row(part: &mut [u8], pair: Pair)
     part[1] = pair.right;
 }
 
-// The two bytes of one row of a cell, for a caller that lends their places to the row painter.
-pub fn cell_pair(
-    text: &[u8; 128],
-    glyph: &[u8; 128],
-    graphic: &[u8; 2048],
-    look: Look,
-    row: usize,
-    cell: usize,
-    half: &[u8],
-    full: &[u8],
-) -> Pair
-    requires { ⌜ (row < 32) × (cell < 16) × (length (now half) ≡ 2048) ⌝ }
-    ensures { λ r. ⌜ r ≡ cellPair (fonts half full) (before text glyph graphic) look row cell ⌝ }
+// One byte of the glass, where its cell has these dots: with everything over them.
+pub fn byte_over(graphic: &[u8; 2048], look: Look, row: u32, column: u32, dots: u8) -> u8
+    requires { ⌜ (row < 32) × (column < 32) ⌝ }
+    ensures { λ r. ⌜ r ≡ byteOver dots (now (graphic .entry)) look row column ⌝ }
 {
-    let strip = strip(look, row);
-    cell_row(text, glyph, graphic, strip, cell, half, full)
+    let s = (row + look.view.scroll as u32) % 64;
+    let word = 16 * (s / 16) + (column / 2 + look.view.shift as u32) % 16;
+    let cell = look.counter;
+    let here = word == counter_word(cell);
+    let over = effects(look, s, here);
+    let place = 32 * s + column;
+    shade(over, dots, graphic[place as usize])
 }
 
-// One byte of the glass, for painting a half of a cell's row.
+// One byte of the glass, with one lookup of its word.
 pub fn byte_at(
     text: &[u8; 128],
     glyph: &[u8; 128],
     graphic: &[u8; 2048],
     look: Look,
-    row: usize,
-    column: usize,
+    row: u32,
+    column: u32,
     half: &[u8],
     full: &[u8],
 ) -> u8
     requires { ⌜ (row < 32) × (column < 32) × (length (now half) ≡ 2048) ⌝ }
     ensures { λ r. ⌜ r ≡ byteAt (fonts half full) (before text glyph graphic) look row column ⌝ }
 {
-    let cell = column / 2;
-    let pair = cell_pair(text, glyph, graphic, look, row, cell, half, full);
-    if column % 2 == 1 {
-        return pair.right;
-    }
-    pair.left
+    let s = (row + look.view.scroll as u32) % 64;
+    let word = 16 * (s / 16) + (column / 2 + look.view.shift as u32) % 16;
+    let at = 2 * (word as usize);
+    let shown = content(text[at], text[at + 1], full.len());
+    let y = s % 16;
+    let dots = dot_byte(shown, y as usize, column % 2 == 1, glyph, half, full);
+    byte_over(graphic, look, row, column, dots)
 }

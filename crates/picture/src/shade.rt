@@ -1,11 +1,13 @@
 // Cursor, blink, line reverse, graphic and display, in document 01's order.
 use crate::Effects;
 use crate::Look;
+use controller::Cell;
 ghost use mathlib.Core.Path.{_≡_};
 ghost use mathlib.Core.Bool.{_&&_, _||_, not};
 ghost use Prim.Native.Nat.{_<_};
 ghost use Rattle.base.specs.Choice.{if_then_else_};
 ghost use Rattle.picture.specs.Picture.{filled, inverted, overlaid, effectsOf, shaded};
+ghost use Rattle.picture.specs.Tiles.{counterWord};
 
 // Both flags, as a function, so that the caller has no branch to prove.
 pub(crate) fn both(a: bool, b: bool) -> bool
@@ -21,8 +23,18 @@ pub(crate) fn off_or_standby(display: bool, standby: bool) -> bool
     if display { standby } else { true }
 }
 
+// The counter's word, or 64, which no cell shows.
+pub(crate) fn counter_word(cell: Cell) -> u32
+    ensures { λ r. ⌜ r ≡ counterWord cell ⌝ }
+{
+    match cell {
+        Cell::Nowhere => 64,
+        Cell::Word(word) => word as u32,
+    }
+}
+
 // What is done on memory row s to the dots of the cell at the counter (`here`), or of another.
-pub(crate) fn effects(look: Look, s: usize, here: bool) -> Effects
+pub(crate) fn effects(look: Look, s: u32, here: bool) -> Effects
     requires { ⌜ s < 64 ⌝ }
     ensures { λ r. ⌜ r ≡ effectsOf look s here ⌝ }
 {
@@ -32,7 +44,7 @@ pub(crate) fn effects(look: Look, s: usize, here: bool) -> Effects
     Effects {
         cursor: both(here, both(look.cursor, s % 16 == 15)),
         blink: both(here, look.blink),
-        reverse: reversed[line],
+        reverse: reversed[line as usize],
         graphic: look.graphic,
         dark: look.dark,
     }

@@ -1,9 +1,9 @@
 // The tiles of a line's sixteen cells, one after the other: what is done to them before they are handed out, in document 01's order.
 use crate::Look;
-use crate::rows::counter_word;
+use crate::Pair;
 use crate::shade::both;
+use crate::shade::counter_word;
 use crate::shade::overlay;
-use glyph::Pair;
 use glyph::lookup::content;
 use glyph::tile::lay;
 ghost use mathlib.Core.Path.{_≡_};
@@ -13,14 +13,14 @@ ghost use lib.ListN.{length, getD};
 ghost use lib.Dec.{eqb};
 ghost use Rattle.base.specs.Lists.{upto};
 ghost use Rattle.base.specs.Painting.{painted, everywhere, between};
-ghost use Rattle.picture.specs.Picture.{fonts, atPlace, overlaid, darkened};
-ghost use Rattle.picture.specs.Tiles.{wordDots, lineWord, tileByte, pairBy};
+ghost use Rattle.picture.specs.Picture.{fonts, overlaid, darkened};
+ghost use Rattle.picture.specs.Tiles.{wordDots, lineWord, tileByte, byTile, pairBy};
 
 // The word's dots, as the tile that begins at `to`.
 fn lay_word(
     text: &[u8; 128],
     glyph: &[u8; 128],
-    word: usize,
+    word: u32,
     tiles: &mut [u8],
     to: usize,
     half: &[u8],
@@ -29,7 +29,7 @@ fn lay_word(
     requires { ⌜ (word < 64) × (to + 32 ≤ length (now tiles)) × (length (now half) ≡ 2048) ⌝ }
     ensures { λ _. ⌜ now (tiles .exit) ≡ painted (between to (to + 32) everywhere) (λ i. wordDots (fonts half full) (now (text .entry)) (now (glyph .entry)) word (i - to)) (now (tiles .entry)) ⌝ }
 {
-    let at = 2 * word;
+    let at = 2 * (word as usize);
     let shown = content(text[at], text[at + 1], full.len());
     lay(shown, tiles, to, glyph, half, full);
 }
@@ -38,19 +38,19 @@ fn lay_word(
 fn lay_words(
     text: &[u8; 128],
     glyph: &[u8; 128],
-    shift: usize,
-    line: usize,
+    shift: u32,
+    line: u32,
     tiles: &mut [u8],
     half: &[u8],
     full: &[u8],
 )
     requires { ⌜ (shift < 256) × (line < 4) × (length (now tiles) ≡ 512) × (length (now half) ≡ 2048) ⌝ }
-    ensures { λ _. ⌜ now (tiles .exit) ≡ upto 512 (atPlace (λ cell j. wordDots (fonts half full) (now (text .entry)) (now (glyph .entry)) (lineWord shift line cell) j)) ⌝ }
+    ensures { λ _. ⌜ now (tiles .exit) ≡ upto 512 (byTile (λ cell j. wordDots (fonts half full) (now (text .entry)) (now (glyph .entry)) (lineWord shift line cell) j)) ⌝ }
 {
-    let mut cell: usize = 0;
+    let mut cell: u32 = 0;
     while cell < 16 {
         let word = 16 * line + (cell + shift) % 16;
-        let to = 32 * cell;
+        let to = 32 * (cell as usize);
         lay_word(text, glyph, word, tiles, to, half, full);
         cell += 1;
     }
@@ -68,19 +68,20 @@ fn fill_cursor(tiles: &mut [u8], at: usize, on: bool)
     }
 }
 
-fn invert(tiles: &mut [u8], from: usize, to: usize)
+fn invert(tiles: &mut [u8], from: u32, to: u32)
     requires { ⌜ (from ≤ to) × (to ≤ length (now tiles)) ⌝ }
     ensures { λ _. ⌜ now (tiles .exit) ≡ painted (between from to everywhere) (λ i. 0xFF - getD (now (tiles .entry)) i 0) (now (tiles .entry)) ⌝ }
 {
     let mut i = from;
     while i < to {
-        tiles[i] = 0xFF - tiles[i];
+        let k = i as usize;
+        tiles[k] = 0xFF - tiles[k];
         i += 1;
     }
 }
 
 // Blink and line reverse invert.
-fn invert_if(tiles: &mut [u8], from: usize, to: usize, on: bool)
+fn invert_if(tiles: &mut [u8], from: u32, to: u32, on: bool)
     requires { ⌜ (from ≤ to) × (to ≤ length (now tiles)) ⌝ }
     ensures { λ _. ⌜ now (tiles .exit) ≡ painted (λ i. on && between from to everywhere i) (λ i. 0xFF - getD (now (tiles .entry)) i 0) (now (tiles .entry)) ⌝ }
 {
@@ -94,24 +95,24 @@ pub(crate) fn lay_line(
     text: &[u8; 128],
     glyph: &[u8; 128],
     look: Look,
-    line: usize,
+    line: u32,
     tiles: &mut [u8],
     half: &[u8],
     full: &[u8],
 )
     requires { ⌜ (line < 4) × (length (now tiles) ≡ 512) × (length (now half) ≡ 2048) ⌝ }
-    ensures { λ _. ⌜ now (tiles .exit) ≡ upto 512 (atPlace (λ cell j. tileByte (fonts half full) (now (text .entry)) (now (glyph .entry)) look (lineWord (look .view .shift) line cell) j)) ⌝ }
+    ensures { λ _. ⌜ now (tiles .exit) ≡ upto 512 (byTile (λ cell j. tileByte (fonts half full) (now (text .entry)) (now (glyph .entry)) look (lineWord (look .view .shift) line cell) j)) ⌝ }
 {
-    let shift = look.view.shift as usize;
+    let shift = look.view.shift as u32;
     let cell = look.counter;
     let counter = counter_word(cell);
     let here = counter / 16 == line;
     let at = 32 * ((counter % 16 + 256 - shift) % 16);
     let reversed = look.view.reversed;
     lay_words(text, glyph, shift, line, tiles, half, full);
-    fill_cursor(tiles, at, both(here, look.cursor));
+    fill_cursor(tiles, at as usize, both(here, look.cursor));
     invert_if(tiles, at, at + 32, both(here, look.blink));
-    invert_if(tiles, 0, 512, reversed[line]);
+    invert_if(tiles, 0, 512, reversed[line as usize]);
 }
 
 // The tile of one word, likewise.
@@ -119,7 +120,7 @@ pub fn lay_tile(
     text: &[u8; 128],
     glyph: &[u8; 128],
     look: Look,
-    word: usize,
+    word: u32,
     tile: &mut [u8],
     half: &[u8],
     full: &[u8],
@@ -134,7 +135,7 @@ pub fn lay_tile(
     lay_word(text, glyph, word, tile, 0, half, full);
     fill_cursor(tile, 0, both(here, look.cursor));
     invert_if(tile, 0, 32, both(here, look.blink));
-    invert_if(tile, 0, 32, reversed[line]);
+    invert_if(tile, 0, 32, reversed[line as usize]);
 }
 
 // A tile's byte as it shows: with the graphic over it, or nothing in the dark.
@@ -148,13 +149,13 @@ fn lit(dark: bool, graphic: bool, dots: u8, byte: u8) -> u8
 }
 
 // The two bytes that a cell's tile shows on a row of the glass.
-pub fn tile_pair(tile: &[u8], graphic: &[u8; 2048], look: Look, row: usize, cell: usize) -> Pair
+pub fn tile_pair(tile: &[u8], graphic: &[u8; 2048], look: Look, row: u32, cell: u32) -> Pair
     requires { ⌜ (row < 32) × (cell < 16) × (length (now tile) ≡ 32) ⌝ }
     ensures { λ r. ⌜ r ≡ pairBy (now (tile .entry)) (now (graphic .entry)) look row cell ⌝ }
 {
-    let s = (row + look.view.scroll as usize) % 64;
-    let at = 2 * (s % 16);
-    let place = 32 * s + 2 * cell;
+    let s = (row + look.view.scroll as u32) % 64;
+    let at = 2 * ((s % 16) as usize);
+    let place = 32 * (s as usize) + 2 * (cell as usize);
     Pair {
         left: lit(look.dark, look.graphic, graphic[place], tile[at]),
         right: lit(look.dark, look.graphic, graphic[place + 1], tile[at + 1]),

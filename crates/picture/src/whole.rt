@@ -8,31 +8,33 @@ ghost use lib.ListN.{length, getD};
 ghost use lib.Bits.{bitXor};
 ghost use Rattle.base.specs.Lists.{upto};
 ghost use Rattle.base.specs.Painting.{painted, everywhere, between};
+ghost use Rattle.base.specs.Layout.{paintedOn};
 ghost use Rattle.controller.specs.Memories.{before};
-ghost use Rattle.picture.specs.Picture.{fonts, byteAt, atPlace, overlaid, picture};
-ghost use Rattle.picture.specs.Tiles.{handed, bandEnd};
+ghost use Rattle.picture.specs.Picture.{fonts, byteAt, overlaid, wide, picture};
+ghost use Rattle.picture.specs.Tiles.{fromTiles, inRows, bandEnd};
 
 // Nothing shows.
 fn clear(frame: &mut [u8])
     requires { ⌜ length (now frame) ≡ 1024 ⌝ }
     ensures { λ _. ⌜ now (frame .exit) ≡ upto 1024 (λ i. 0) ⌝ }
 {
-    let mut i: usize = 0;
+    let mut i: u32 = 0;
     while i < 1024 {
-        frame[i] = 0;
+        frame[i as usize] = 0;
         i += 1;
     }
 }
 
 // Row y of each tile of the line goes to row `row` of the glass.
-fn hand_row(tiles: &[u8], y: usize, row: usize, frame: &mut [u8])
+fn hand_row(tiles: &[u8], y: u32, row: u32, frame: &mut [u8])
     requires { ⌜ (y < 16) × (row < 32) × (length (now tiles) ≡ 512) × (length (now frame) ≡ 1024) ⌝ }
-    ensures { λ _. ⌜ now (frame .exit) ≡ painted (between (32 * row) (32 * row + 32) everywhere) (handed (now (tiles .entry)) y) (now (frame .entry)) ⌝ }
+    ensures { λ _. ⌜ now (frame .exit) ≡ painted (between (32 * row) (32 * row + 32) everywhere) (fromTiles (now (tiles .entry)) y) (now (frame .entry)) ⌝ }
 {
-    let mut cell: usize = 0;
+    let mut cell: u32 = 0;
     while cell < 16 {
-        let from = 32 * cell + 2 * y;
-        let to = 32 * row + 2 * cell;
+        let k = cell as usize;
+        let from = 32 * k + 2 * (y as usize);
+        let to = 32 * (row as usize) + 2 * k;
         let left = tiles[from];
         let right = tiles[from + 1];
         frame[to] = left;
@@ -42,9 +44,9 @@ fn hand_row(tiles: &[u8], y: usize, row: usize, frame: &mut [u8])
 }
 
 // The rows of the glass from `row` up to `end` show the line's rows from y on.
-fn hand_out(tiles: &[u8], scroll: usize, row: usize, end: usize, frame: &mut [u8])
+fn hand_out(tiles: &[u8], scroll: u32, row: u32, end: u32, frame: &mut [u8])
     requires { ⌜ (scroll < 256) × (row ≤ end) × (end ≤ 32) × (length (now tiles) ≡ 512) × (length (now frame) ≡ 1024) ⌝ }
-    ensures { λ _. ⌜ now (frame .exit) ≡ painted (between (32 * row) (32 * end) everywhere) (λ i. handed (now (tiles .entry)) ((i / 32 + scroll) % 16) i) (now (frame .entry)) ⌝ }
+    ensures { λ _. ⌜ now (frame .exit) ≡ painted (between (32 * row) (32 * end) everywhere) (λ i. fromTiles (now (tiles .entry)) ((i / 32 + scroll) % 16) i) (now (frame .entry)) ⌝ }
 {
     let mut r = row;
     while r < end {
@@ -53,26 +55,20 @@ fn hand_out(tiles: &[u8], scroll: usize, row: usize, end: usize, frame: &mut [u8
     }
 }
 
-fn overlay_run(graphic: &[u8; 2048], from: usize, frame: &mut [u8], to: usize, count: usize)
+fn overlay_run(graphic: &[u8; 2048], from: usize, frame: &mut [u8], to: usize, count: u32)
     requires { ⌜ (from + count ≤ 2048) × (to + count ≤ length (now frame)) ⌝ }
     ensures { λ _. ⌜ now (frame .exit) ≡ painted (between to (to + count) everywhere) (λ i. bitXor (getD (now (frame .entry)) i 0) (getD (now (graphic .entry)) (from + (i - to)) 0)) (now (frame .entry)) ⌝ }
 {
-    let mut i: usize = 0;
+    let mut i: u32 = 0;
     while i < count {
-        frame[to + i] = frame[to + i] ^ graphic[from + i];
+        let k = i as usize;
+        frame[to + k] = frame[to + k] ^ graphic[from + k];
         i += 1;
     }
 }
 
 // The graphic bytes from `from` on over those of the frame from `to` on, if G.
-fn overlay_if(
-    graphic: &[u8; 2048],
-    from: usize,
-    frame: &mut [u8],
-    to: usize,
-    count: usize,
-    on: bool,
-)
+fn overlay_if(graphic: &[u8; 2048], from: usize, frame: &mut [u8], to: usize, count: u32, on: bool)
     requires { ⌜ (from + count ≤ 2048) × (to + count ≤ length (now frame)) ⌝ }
     ensures { λ _. ⌜ now (frame .exit) ≡ painted (between to (to + count) everywhere) (λ i. overlaid on (getD (now (graphic .entry)) (from + (i - to)) 0) (getD (now (frame .entry)) i 0)) (now (frame .entry)) ⌝ }
 {
@@ -82,7 +78,7 @@ fn overlay_if(
 }
 
 // The row after those that show the same line as row `row`, which shows memory row s.
-fn band_end(row: usize, s: usize) -> usize
+fn band_end(row: u32, s: u32) -> u32
     requires { ⌜ row < 32 ⌝ }
     ensures { λ r. ⌜ r ≡ bandEnd row s ⌝ }
 {
@@ -96,16 +92,16 @@ fn paint_band(
     glyph: &[u8; 128],
     graphic: &[u8; 2048],
     look: Look,
-    row: usize,
+    row: u32,
     frame: &mut [u8],
     half: &[u8],
     full: &[u8],
-) -> usize
+) -> u32
     requires { ⌜ (look .dark ≡ false) × (row < 32) × (length (now frame) ≡ 1024) × (length (now half) ≡ 2048) ⌝ }
     ensures within { λ r. ⌜ (row < r) × (r ≤ 32) ⌝ }
-    ensures { λ r. ⌜ now (frame .exit) ≡ painted (between (32 * row) (32 * r) everywhere) (atPlace (byteAt (fonts half full) (before text glyph graphic) look)) (now (frame .entry)) ⌝ }
+    ensures { λ r. ⌜ now (frame .exit) ≡ paintedOn wide (inRows row r) (byteAt (fonts half full) (before text glyph graphic) look) (now (frame .entry)) ⌝ }
 {
-    let scroll = look.view.scroll as usize;
+    let scroll = look.view.scroll as u32;
     let s = (row + scroll) % 64;
     let end = band_end(row, s);
     let mut tiles = [0u8; 512];
@@ -113,9 +109,9 @@ fn paint_band(
     hand_out(&tiles, scroll, row, end, frame);
     overlay_if(
         graphic,
-        32 * s,
+        32 * (s as usize),
         frame,
-        32 * row,
+        32 * (row as usize),
         32 * (end - row),
         look.graphic,
     );
@@ -133,13 +129,13 @@ pub fn paint_whole(
     full: &[u8],
 )
     requires { ⌜ (length (now frame) ≡ 1024) × (length (now half) ≡ 2048) ⌝ }
-    ensures { λ _. ⌜ now (frame .exit) ≡ picture (fonts half full) (before text glyph graphic) look ⌝ }
+    ensures { λ _. ⌜ now (frame .exit) ≡ picture wide (fonts half full) (before text glyph graphic) look ⌝ }
 {
     if look.dark {
         clear(frame);
         return;
     }
-    let mut row: usize = 0;
+    let mut row: u32 = 0;
     while row < 32 {
         row = paint_band(text, glyph, graphic, look, row, frame, half, full);
     }

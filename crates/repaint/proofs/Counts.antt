@@ -8,6 +8,7 @@ use native.Mathlib.Omega.{arith}
 use lib.Dec.{eqb}
 use borrow.Author.Tests.{eqb-true}
 use Rattle.base.specs.Painting.{count}
+use Rattle.base.specs.Layout.{on, countOn}
 use Rattle.base.proofs.Counting.{count-cong, count-none, count-all, count-or-le, count-window, count-grid, count-rows}
 use Rattle.base.proofs.Tests.{and-both}
 use Rattle.controller.specs.declared.View.{View}
@@ -18,7 +19,7 @@ use Rattle.controller.specs.declared.Region.the-variants.{Nothing, Whole, Cells
 use Rattle.controller.specs.Memories.{half}
 use Rattle.controller.specs.Glass.{shownRow, shownWord, wordImage, isImage}
 use Rattle.controller.specs.Named.{inCell, inSomeCell, showsGlyph, showsGraphic, covers}
-use Rattle.picture.specs.Picture.{atPlace}
+use Rattle.picture.specs.Picture.{wide}
 use Rattle.repaint.specs.Repaint.{named, countNamed, mostOf}
 
 -- byte c of row r, as a place
@@ -29,7 +30,7 @@ at-column : (r c : ℕ) → c < 32 → (r * 32 + c) % 32 ≡ c
 at-column r c h = omega arith
 
 -- a row at a time
-row-count : (f : ℕ → ℕ → Bool) (r : ℕ) → count 32 (λ c. atPlace f (r * 32 + c)) ≡ count 32 (f r)
+row-count : (f : ℕ → ℕ → Bool) (r : ℕ) → count 32 (λ c. on wide f (r * 32 + c)) ≡ count 32 (f r)
 row-count f r = count-cong 32 _ (f r) (λ c h. rw (at-row r c h, at-column r c h))
 
 -- rows of one line, and columns of one cell
@@ -45,10 +46,10 @@ pub count-in-rows :
     → ((r : ℕ) → r < 32 → Q r ≡ true → count 32 (f r) ≤ m)
     → ((r c : ℕ) → Q r ≡ false → f r c ≡ false)
     → count 32 Q ≤ k
-    → count 1024 (atPlace f) ≤ m * k
+    → countOn wide f ≤ m * k
 count-in-rows f Q m k some none rows =
-    let grid : count (32 * 32) (atPlace f) ≤ m * count 32 Q =
-    count-grid 32 32 m (atPlace f) Q (λ r h q. rw (row-count f r) (some r h q))
+    let grid : count (32 * 32) (on wide f) ≤ m * count 32 Q =
+    count-grid 32 32 m (on wide f) Q (λ r h q. rw (row-count f r) (some r h q))
     (λ r h q. row-count f r ∙ count-none 32 (f r) (λ c l. none r c q)) in
     le-trans grid (mul-le-mul-left m rows)
 
@@ -91,7 +92,7 @@ same-place :
     (x i j y a : ℕ) → i < 1024 → j < 1024 → (i / 32 + x) % 64 ≡ y → (j / 32 + x) % 64 ≡ y → i % 32 ≡ a → j % 32 ≡ a → j < i + 1
 same-place x i j y a h g e f d b = omega arith
 
-pub count-cell : (v : View) (word : ℕ) → count 1024 (atPlace (inCell v word)) ≤ 32
+pub count-cell : (v : View) (word : ℕ) → countOn wide (inCell v word) ≤ 32
 unfolding inCell shownRow
 count-cell v word =
     count-in-rows (inCell v word) (λ r. eqb ((r + v .scroll) % 64 / 16) (word / 16)) 2 16
@@ -101,7 +102,7 @@ count-cell v word =
     (count-window 32 16 (λ r. eqb ((r + v .scroll) % 64 / 16) (word / 16))
     (λ r s h g e f. near-rows (v .scroll) r s h g (eqb-true _ (word / 16) e ∙ sym (eqb-true _ (word / 16) f))))
 
-pub count-glyph : (v : View) (text : List ℕ) (word : ℕ) (low : Bool) → count 1024 (atPlace (showsGlyph v text word low)) ≤ 32
+pub count-glyph : (v : View) (text : List ℕ) (word : ℕ) (low : Bool) → countOn wide (showsGlyph v text word low) ≤ 32
 unfolding showsGlyph shownRow
 count-glyph v text word low =
     count-in-rows (showsGlyph v text word low) (λ r. eqb ((r + v .scroll) % 64 % 16) (word % 16)) 16 2
@@ -111,22 +112,22 @@ count-glyph v text word low =
     (count-rows 2 16 (λ r. eqb ((r + v .scroll) % 64 % 16) (word % 16))
     (λ k i j l a b e f. same-glyph-row (v .scroll) k i j (word % 16) a b (eqb-true _ (word % 16) e) (eqb-true _ (word % 16) f)))
 
-pub count-graphic : (v : View) (y k : ℕ) (low : Bool) → count 1024 (atPlace (showsGraphic v y k low)) ≤ 1
+pub count-graphic : (v : View) (y k : ℕ) (low : Bool) → countOn wide (showsGraphic v y k low) ≤ 1
 count-graphic v y k low =
-    count-window 1024 1 (atPlace (showsGraphic v y k low))
+    count-window 1024 1 (on wide (showsGraphic v y k low))
     (λ i j h g e f.
     let a = graphic-place-is v y k low (i / 32) (i % 32) e in
     let b = graphic-place-is v y k low (j / 32) (j % 32) f in
     same-place (v .scroll) i j y (2 * k + half low) h g (a .0) (b .0) (a .1) (b .1))
 
-some-cell-count : (v : View) (cell : Cell) → count 1024 (atPlace (inSomeCell v cell)) ≤ 32
-some-cell-count v Nowhere = subst (λ (n : ℕ). n ≤ 32) (sym (count-none 1024 (atPlace (inSomeCell v Nowhere)) (λ i h. refl))) (omega arith)
+some-cell-count : (v : View) (cell : Cell) → countOn wide (inSomeCell v cell) ≤ 32
+some-cell-count v Nowhere = subst (λ (n : ℕ). n ≤ 32) (sym (count-none 1024 (on wide (inSomeCell v Nowhere)) (λ i h. refl))) (omega arith)
 some-cell-count v (Word word) = count-cell v word
 
-pub count-cells : (v : View) (text : List ℕ) (a b : Cell) → count 1024 (atPlace (covers v text (Cells a b))) ≤ 64
+pub count-cells : (v : View) (text : List ℕ) (a b : Cell) → countOn wide (covers v text (Cells a b)) ≤ 64
 unfolding covers
 count-cells v text a b =
-    let sum = count-or-le 1024 (atPlace (inSomeCell v a)) (atPlace (inSomeCell v b)) in
+    let sum = count-or-le 1024 (on wide (inSomeCell v a)) (on wide (inSomeCell v b)) in
     let first = some-cell-count v a in
     let second = some-cell-count v b in
     omega arith
@@ -135,16 +136,16 @@ at-most : {n k : ℕ} → n ≡ k → n ≤ k
 at-most e = omega arith
 
 -- every byte, and none
-pub count-whole : (v : View) (text : List ℕ) → count 1024 (atPlace (covers v text Whole)) ≡ 1024
+pub count-whole : (v : View) (text : List ℕ) → countOn wide (covers v text Whole) ≡ 1024
 unfolding covers
-count-whole v text = count-all 1024 (atPlace (covers v text Whole)) (λ i h. refl)
+count-whole v text = count-all 1024 (on wide (covers v text Whole)) (λ i h. refl)
 
-pub count-nothing : (v : View) (text : List ℕ) → count 1024 (atPlace (covers v text Nothing)) ≡ 0
+pub count-nothing : (v : View) (text : List ℕ) → countOn wide (covers v text Nothing) ≡ 0
 unfolding covers
-count-nothing v text = count-none 1024 (atPlace (covers v text Nothing)) (λ i h. refl)
+count-nothing v text = count-none 1024 (on wide (covers v text Nothing)) (λ i h. refl)
 
 -- whatever the region
-pub count-most : (v : View) (text : List ℕ) (region : Region) → countNamed v text region ≤ mostOf region
+pub count-most : (v : View) (text : List ℕ) (region : Region) → countNamed wide v text region ≤ mostOf region
 unfolding countNamed named covers
 count-most v text Nothing = at-most (count-nothing v text)
 count-most v text Whole = at-most (count-whole v text)

@@ -1,124 +1,94 @@
--- Painting one byte, none, or turn by turn, with the count: the laws of painting and of counting, side by side.
-use Prim.Native.Nat.{ℕ, _+_, _*_, _<_, _≤_}
-use mathlib.Core.Path.{_≡_, sym, ap, _∙_, subst, ap₂}
+-- Painting with the count: the laws of painting and of counting, side by side.
+use Prim.Native.Nat.{ℕ, _+_, _<_, _≤_}
+use mathlib.Core.Path.{_≡_, sym, ap, ap₂, _∙_, subst}
 use mathlib.Core.Bool.{Bool, false, _&&_, _||_}
 use mathlib.Core.List.{List}
-use native.Mathlib.Nat.{add-zero}
 use native.Mathlib.Omega.{arith}
 use lib.ListN.{length, set}
-use lib.Dec.{eqb}
-use Rattle.base.specs.Painting.{between, painted}
-use Rattle.base.proofs.Counting.{count-cong, count-none, count-one, count-le, count-disjoint}
-use Rattle.base.proofs.Painting.{painted-length, painted-same, painted-none, painted-one, painted-or}
-use Rattle.base.proofs.Loops.{paint-begin, paint-step, paint-end, count-begin, count-step, count-end}
-use Rattle.controller.specs.Glass.{placeOf}
-use Rattle.picture.specs.Picture.{atPlace}
-use Rattle.picture.proofs.CellRows.{at-place}
-use Rattle.repaint.specs.Repaint.{painting, paints}
+use Rattle.base.specs.Painting.{painted}
+use Rattle.base.specs.Layout.{Layout, on, rows, columns}
+use Rattle.base.proofs.Counting.{count-cong, count-none, count-le, count-disjoint}
+use Rattle.base.proofs.Painting.{painted-length, painted-same, painted-none, painted-or}
+use Rattle.base.proofs.Loops.{between-none, between-join, between-apart}
+use Rattle.base.proofs.Layouts.{Placed, only, rows-none, rows-join, rows-apart, byte-painted, byte-counted}
+use Rattle.repaint.specs.Repaint.{painting, paints, paintsOn}
 use Rattle.repaint.proofs.Records.{painting-both, painting-count, painting-frame}
 
--- at most every byte is counted, and the frame keeps its length
-pub paints-le : (P : ℕ → Bool) (b : ℕ → ℕ) (f g : List ℕ) (n : ℕ) → painting n g ≡ paints P b f → n ≤ 1024
-paints-le P b f g n e = subst (λ (k : ℕ). k ≤ 1024) (sym (painting-count e)) (count-le 1024 P)
+module _ (s : ℕ) where
+  -- at most every byte is counted, and the frame keeps its length
+  pub paints-le : (P : ℕ → Bool) (b : ℕ → ℕ) (f g : List ℕ) (n : ℕ) → painting n g ≡ paints s P b f → n ≤ s
+  paints-le P b f g n e = subst (λ (k : ℕ). k ≤ s) (sym (painting-count e)) (count-le s P)
 
-pub paints-length : (P : ℕ → Bool) (b : ℕ → ℕ) (f g : List ℕ) (n : ℕ) → painting n g ≡ paints P b f → length g ≡ length f
-paints-length P b f g n e = ap length (painting-frame e) ∙ painted-length P b f
+  pub paints-length : (P : ℕ → Bool) (b : ℕ → ℕ) (f g : List ℕ) (n : ℕ) → painting n g ≡ paints s P b f → length g ≡ length f
+  paints-length P b f g n e = ap length (painting-frame e) ∙ painted-length P b f
 
-module _ (P : ℕ → Bool) (f : List ℕ) (size : length f ≡ 1024) where
   -- no place is named
-  pub paints-none : (b : ℕ → ℕ) → ((i : ℕ) → i < 1024 → P i ≡ false) → painting 0 f ≡ paints P b f
-  paints-none b h = painting-both (sym (count-none 1024 P h)) (sym (painted-none P b f (λ i l. h i (omega arith))))
+  pub paints-none : (P : ℕ → Bool) (b : ℕ → ℕ) (f : List ℕ) → length f ≡ s → ((i : ℕ) → i < s → P i ≡ false) → painting 0 f ≡ paints s P b f
+  paints-none P b f size h = painting-both (sym (count-none s P h)) (sym (painted-none P b f (λ i l. h i (omega arith))))
 
-  -- one place is named
-  pub paints-one :
-      (byte : ℕ → ℕ → ℕ) (g : List ℕ) (row column : ℕ)
-      → row < 32
-      → column < 32
-      → ((i : ℕ) → i < 1024 → P i ≡ eqb i (placeOf row column))
-      → g ≡ set f (placeOf row column) (byte row column)
-      → painting 1 g ≡ paints P (atPlace byte) f
-  paints-one byte g row column r k h e =
+  -- the same set, said in another way
+  pub paints-same : (P Q : ℕ → Bool) (b : ℕ → ℕ) (f : List ℕ) → length f ≡ s → ((i : ℕ) → i < s → P i ≡ Q i) → paints s P b f ≡ paints s Q b f
+  paints-same P Q b f size e = painting-both (count-cong s P Q e) (painted-same P Q b f (λ i h. e i (omega arith)))
+
+  -- two sets that have no place in common, one after the other
+  pub paints-both :
+      (P Q : ℕ → Bool) (b : ℕ → ℕ) (f g h : List ℕ) (n k : ℕ)
+      → ((i : ℕ) → (P i && Q i) ≡ false)
+      → painting n g ≡ paints s P b f
+      → painting k h ≡ paints s Q b g
+      → painting (n + k) h ≡ paints s (λ i. P i || Q i) b f
+  paints-both P Q b f g h n k apart first second =
       painting-both
-      (sym (count-cong 1024 P _ h ∙ count-one 1024 (placeOf row column) (omega arith)))
-      (e ∙ ap (set f (placeOf row column)) (sym (at-place byte row column k)) ∙ painted-one (placeOf row column) (atPlace byte) f (omega arith)
-      ∙ sym (painted-same P _ (atPlace byte) f (λ i l. h i (omega arith))))
+      (ap₂ _+_ (painting-count first) (painting-count second) ∙ sym (count-disjoint s P Q (λ i l. apart i)))
+      (painting-frame second ∙ ap (painted Q b) (painting-frame first) ∙ painted-or P Q b f)
 
--- a loop from place a on
-module _ (P : ℕ → Bool) (b : ℕ → ℕ) (f : List ℕ) where
-  pub paints-begin : (a : ℕ) → painting 0 f ≡ paints (between a a P) b f
-  paints-begin a = painting-both (count-begin P 1024 a) (paint-begin P b f a)
+  -- a set in two parts
+  pub paints-parts :
+      (P Q R : ℕ → Bool) (b : ℕ → ℕ) (f g h : List ℕ) (n k : ℕ)
+      → ((i : ℕ) → R i ≡ (P i || Q i))
+      → ((i : ℕ) → (P i && Q i) ≡ false)
+      → painting n g ≡ paints s P b f
+      → painting k h ≡ paints s Q b g
+      → painting (n + k) h ≡ paints s R b f
+  paints-parts P Q R b f g h n k parts apart first second =
+      paints-both P Q b f g h n k apart first second
+      ∙ sym (painting-both (count-cong s R _ (λ i l. parts i)) (painted-same R _ b f (λ i l. parts i)))
 
-  pub paints-step :
-      (g h : List ℕ) (a n m x y : ℕ)
-      → a ≤ n
-      → n ≤ m
-      → painting x g ≡ paints (between a n P) b f
-      → painting y h ≡ paints (between n m P) b g
-      → painting (x + y) h ≡ paints (between a m P) b f
-  paints-step g h a n m x y k l c e =
-      painting-both
-      (count-step P 1024 x y a n m k l (painting-count c) (painting-count e))
-      (paint-step P b f g h a n m k l (painting-frame c) (painting-frame e))
+-- row by row, and column by column, on any layout: before the first, and further
+module _ (l : Layout) (P : ℕ → ℕ → Bool) (b : ℕ → ℕ → ℕ) (f : List ℕ) where
+  pub rows-begin : (n : ℕ) → painting 0 f ≡ paintsOn l (rows n n P) b f
+  rows-begin n =
+      painting-both (sym (count-none (l .size) _ (λ i h. rows-none P n (l .row i) (l .column i))))
+      (sym (painted-none _ (on l b) f (λ i h. rows-none P n (l .row i) (l .column i))))
 
-  pub paints-end : (g : List ℕ) (x : ℕ) → length f ≡ 1024 → painting x g ≡ paints (between 0 1024 P) b f → painting x g ≡ paints P b f
-  paints-end g x size c =
-      painting-both (count-end P 1024 x 1024 (omega arith) (painting-count c)) (paint-end P b f g 1024 (omega arith) (painting-frame c))
+  pub rows-step : (g h : List ℕ) (a n m x y : ℕ) → a ≤ n → n ≤ m → painting x g ≡ paintsOn l (rows a n P) b f
+      → painting y h ≡ paintsOn l (rows n m P) b g → painting (x + y) h ≡ paintsOn l (rows a m P) b f
+  rows-step g h a n m x y k z c e =
+      paints-parts (l .size) (on l (rows a n P)) (on l (rows n m P)) (on l (rows a m P)) (on l b) f g h x y
+      (λ i. rows-join P a n m (l .row i) (l .column i) k z) (λ i. rows-apart P a n m (l .row i) (l .column i)) c e
 
--- the loop over the cells of a row
-module _ (P : ℕ → Bool) (b : ℕ → ℕ) (row : ℕ) (f : List ℕ) where
-  pub cells-begin : painting 0 f ≡ paints (between (32 * row) (32 * row + 2 * 0) P) b f
-  cells-begin = rw (add-zero (32 * row)) (paints-begin P b f (32 * row))
+  pub columns-begin : (n : ℕ) → painting 0 f ≡ paintsOn l (columns n n P) b f
+  columns-begin n =
+      painting-both (sym (count-none (l .size) _ (λ i h. between-none (P (l .row i)) n (l .column i))))
+      (sym (painted-none _ (on l b) f (λ i h. between-none (P (l .row i)) n (l .column i))))
 
-  pub cells-turn :
-      (g h : List ℕ) (cell x y : ℕ)
-      → painting x g ≡ paints (between (32 * row) (32 * row + 2 * cell) P) b f
-      → painting y h ≡ paints (between (32 * row + 2 * cell) (32 * row + 2 * cell + 2) P) b g
-      → painting (x + y) h ≡ paints (between (32 * row) (32 * row + 2 * (cell + 1)) P) b f
-  cells-turn g h cell x y c e =
-      let next : 32 * row + 2 * (cell + 1) ≡ 32 * row + 2 * cell + 2 = omega arith in
-      rw next (paints-step P b f g h (32 * row) (32 * row + 2 * cell) (32 * row + 2 * cell + 2) x y (omega arith) (omega arith) c e)
+  pub columns-step : (g h : List ℕ) (a n m x y : ℕ) → a ≤ n → n ≤ m → painting x g ≡ paintsOn l (columns a n P) b f
+      → painting y h ≡ paintsOn l (columns n m P) b g → painting (x + y) h ≡ paintsOn l (columns a m P) b f
+  columns-step g h a n m x y k z c e =
+      paints-parts (l .size) (on l (columns a n P)) (on l (columns n m P)) (on l (columns a m P)) (on l b) f g h x y
+      (λ i. between-join (P (l .row i)) a n m (l .column i) k z) (λ i. between-apart (P (l .row i)) a n m (l .column i)) c e
 
-  pub cells-end :
-      (g : List ℕ) (cell x : ℕ)
-      → cell ≡ 16
-      → painting x g ≡ paints (between (32 * row) (32 * row + 2 * cell) P) b f
-      → painting x g ≡ paints (between (32 * row) (32 * row + 32) P) b f
-  cells-end g cell x k c = let last : 32 * row + 2 * cell ≡ 32 * row + 32 = omega arith in rw last at c
-
--- the loop over the rows of the glass
-module _ (P : ℕ → Bool) (b : ℕ → ℕ) (f : List ℕ) where
-  pub rows-turn :
-      (g h : List ℕ) (row x y : ℕ)
-      → painting x g ≡ paints (between 0 (32 * row) P) b f
-      → painting y h ≡ paints (between (32 * row) (32 * row + 32) P) b g
-      → painting (x + y) h ≡ paints (between 0 (32 * (row + 1)) P) b f
-  rows-turn g h row x y c e =
-      let next : 32 * (row + 1) ≡ 32 * row + 32 = omega arith in
-      rw next (paints-step P b f g h 0 (32 * row) (32 * row + 32) x y (omega arith) (omega arith) c e)
-
-  pub rows-end :
-      (g : List ℕ) (row x : ℕ)
-      → row ≡ 32
-      → length f ≡ 1024
-      → painting x g ≡ paints (between 0 (32 * row) P) b f
-      → painting x g ≡ paints P b f
-  rows-end g row x k size c = let all : 32 * row ≡ 1024 = omega arith in paints-end P b f g x size (rw all at c)
-
--- the same set, said in another way
-pub paints-same : (P Q : ℕ → Bool) (b : ℕ → ℕ) (f : List ℕ) → ((i : ℕ) → P i ≡ Q i) → paints P b f ≡ paints Q b f
-paints-same P Q b f e = painting-both (count-cong 1024 P Q (λ i h. e i)) (painted-same P Q b f (λ i h. e i))
-
-pub paints-below : (P Q : ℕ → Bool) (b : ℕ → ℕ) (f : List ℕ) → length f ≡ 1024 → ((i : ℕ) → i < 1024 → P i ≡ Q i) → paints P b f ≡ paints Q b f
-paints-below P Q b f size e = painting-both (count-cong 1024 P Q e) (painted-same P Q b f (λ i h. e i (omega arith)))
-
--- two sets that have no place in common, one after the other
-pub paints-both :
-    (P Q : ℕ → Bool) (b : ℕ → ℕ) (f g h : List ℕ) (n k : ℕ)
-    → ((i : ℕ) → (P i && Q i) ≡ false)
-    → painting n g ≡ paints P b f
-    → painting k h ≡ paints Q b g
-    → painting (n + k) h ≡ paints (λ i. P i || Q i) b f
-paints-both P Q b f g h n k apart first second =
-    painting-both
-    (ap₂ _+_ (painting-count first) (painting-count second) ∙ sym (count-disjoint 1024 P Q (λ i l. apart i)))
-    (painting-frame second ∙ ap (painted Q b) (painting-frame first) ∙ painted-or P Q b f)
+-- one byte
+pub paints-byte :
+    (l : Layout) (height width : ℕ) (place : ℕ → ℕ → ℕ) → Placed l height width place
+    → (P : ℕ → ℕ → Bool) (b : ℕ → ℕ → ℕ) (f g : List ℕ) (row column : ℕ)
+    → length f ≡ l .size
+    → row < height
+    → column < width
+    → ((r c : ℕ) → r < height → c < width → P r c ≡ only row column r c)
+    → g ≡ set f (place row column) (b row column)
+    → painting 1 g ≡ paintsOn l P b f
+paints-byte l height width place placed P b f g row column size below within is e =
+    painting-both (sym (byte-counted l height width place placed row column below within)) (e ∙ byte-painted l height width place placed row column below within b f size)
+    ∙ sym (paints-same (l .size) (on l P) (on l (only row column)) (on l b) f size
+    (λ i h. is (l .row i) (l .column i) (placed .row-within i h) (placed .column-within i h)))

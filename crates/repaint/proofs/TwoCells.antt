@@ -5,7 +5,9 @@ use mathlib.Core.List.{List}
 use mathlib.Core.Path.{_≡_, refl, _∙_, sym, ap}
 use native.Mathlib.Omega.{arith}
 use lib.Dec.{eqb}
+use lib.ListN.{length}
 use borrow.Author.Tests.{eqb-true, eqb-false}
+use Rattle.base.specs.Layout.{on}
 use Rattle.base.proofs.Tests.{never, and-both}
 use Rattle.controller.specs.declared.View.{View}
 use Rattle.picture.specs.declared.Look.{Look}
@@ -15,8 +17,8 @@ use Rattle.controller.specs.declared.Region.the-variants.{Cells}
 use Rattle.controller.specs.Memories.{Memories}
 use Rattle.controller.specs.Glass.{shownWord}
 use Rattle.controller.specs.Named.{inCell, inSomeCell, covers}
-use Rattle.picture.specs.Picture.{Fonts, byteAt, atPlace}
-use Rattle.repaint.specs.Repaint.{named, repainted, countNamed, painting, paints, repaint, sameCell}
+use Rattle.picture.specs.Picture.{Fonts, byteAt, wide}
+use Rattle.repaint.specs.Repaint.{named, repainted, countNamed, painting, paintsOn, repaint, sameCell}
 use Rattle.repaint.proofs.Shows.{in-cell-shows}
 use Rattle.repaint.proofs.Paintings.{paints-same, paints-both}
 
@@ -47,23 +49,23 @@ apart-cells v (Word x) (Word y) row column e =
     let second = eqb-true (shownWord v row (column / 2)) y (sym (in-cell-shows v y row column) ∙ q .1) in
     eqb-false x y e (sym first ∙ second))
 
-module _ (e : Fonts) (m : Memories) (look : Look) (a b : Cell) (f : List ℕ) where
+module _ (e : Fonts) (m : Memories) (look : Look) (a b : Cell) (f : List ℕ) (size : length f ≡ 1024) where
   pub cells-as-one :
       (n : ℕ) (g : List ℕ)
       → sameCell a b ≡ true
-      → painting n g ≡ paints (atPlace (inSomeCell (look .view) a)) (atPlace (byteAt e m look)) f
-      → painting n g ≡ repaint e m look (Cells a b) f
+      → painting n g ≡ paintsOn wide (inSomeCell (look .view) a) (byteAt e m look) f
+      → painting n g ≡ repaint wide e m look (Cells a b) f
   unfolding repainted countNamed named covers
   cells-as-one n g s h =
-      h ∙ paints-same (atPlace (inSomeCell (look .view) a)) _ (atPlace (byteAt e m look)) f (λ i. one-cell (look .view) a b (i / 32) (i % 32) s)
+      h ∙ paints-same 1024 (on wide (inSomeCell (look .view) a)) _ (on wide (byteAt e m look)) f size (λ i l. one-cell (look .view) a b (i / 32) (i % 32) s)
 
   pub cells-as-two :
       (n k : ℕ) (g h : List ℕ)
       → sameCell a b ≡ false
-      → painting n g ≡ paints (atPlace (inSomeCell (look .view) a)) (atPlace (byteAt e m look)) f
-      → painting k h ≡ paints (atPlace (inSomeCell (look .view) b)) (atPlace (byteAt e m look)) g
-      → painting (n + k) h ≡ repaint e m look (Cells a b) f
+      → painting n g ≡ paintsOn wide (inSomeCell (look .view) a) (byteAt e m look) f
+      → painting k h ≡ paintsOn wide (inSomeCell (look .view) b) (byteAt e m look) g
+      → painting (n + k) h ≡ repaint wide e m look (Cells a b) f
   unfolding repainted countNamed named covers
   cells-as-two n k g h s first second =
-      paints-both (atPlace (inSomeCell (look .view) a)) (atPlace (inSomeCell (look .view) b)) (atPlace (byteAt e m look)) f g h n k
+      paints-both 1024 (on wide (inSomeCell (look .view) a)) (on wide (inSomeCell (look .view) b)) (on wide (byteAt e m look)) f g h n k
       (λ i. apart-cells (look .view) a b (i / 32) (i % 32) s) first second

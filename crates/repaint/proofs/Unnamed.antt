@@ -166,7 +166,7 @@ module _ (e : Fonts) (phase : Bool) (m : Memories) (c : Control) (row column : �
       → shifts c ≡ false
       → atCounter (counterCell (moved (c .entry .id) (c .place))) (shownWord (c .view) row (column / 2)) ≡ atCounter (counterCell (c .place)) (shownWord (c .view) row (column / 2))
       → cellByte e n (c .view) row column ≡ cellByte e m (c .view) row column
-      → graphicByte n (c .view) row column ≡ graphicByte m (c .view) row column
+      → graphicByte (n .graphic) (c .view) row column ≡ graphicByte (m .graphic) (c .view) row column
       → byteAt e n (lookOf phase (movedOn c)) row column ≡ byteAt e m (lookOf phase c) row column
   unfolding movedOn
   moved-on-same n s h k g =

@@ -2,32 +2,34 @@
 -- also where the frame held something else before; the answer counts distinct bytes rewritten, whether or not their content differs.
 use Prim.{Unit}
 use Prim.Native.Nat.{ℕ, _+_, _*_, _-_, _/_, _%_, _<_}
-use mathlib.Core.Bool.{Bool, false}
+use mathlib.Core.Bool.{Bool, false, _&&_}
 use mathlib.Core.List.{List}
 use lib.Dec.{eqb, ltb}
 use Rattle.base.specs.Choice.{if_then_else_}
 use Rattle.base.specs.Painting.{painted, count}
+use Rattle.base.specs.Layout.{Layout, on}
 use Rattle.controller.specs.declared.View.{View}
 use Rattle.controller.specs.declared.Cell.{Cell}
 use Rattle.controller.specs.declared.Cell.the-variants.{Nowhere, Word}
 use Rattle.controller.specs.declared.Region.{Region}
 use Rattle.controller.specs.declared.Region.the-variants.{Nothing, Whole, Cells, GlyphHalf, GraphicHalf}
 use Rattle.controller.specs.Memories.{Memories}
+use Rattle.controller.specs.Glass.{shownRow}
 use Rattle.controller.specs.Named.{covers}
 use Rattle.picture.specs.declared.Look.{Look}
-use Rattle.picture.specs.Picture.{Fonts, byteAt, atPlace}
+use Rattle.picture.specs.Picture.{Fonts, byteAt}
 
--- the places of a region, in the state after the transfer
-unfoldable pub named : View → List ℕ → Region → ℕ → Bool
-named v text region = atPlace (covers v text region)
+-- the places of a region in the frame of a glass, in the state after the transfer
+unfoldable pub named : Layout → View → List ℕ → Region → ℕ → Bool
+named l v text region = on l (covers v text region)
 
 -- the frame after it was repainted
-unfoldable pub repainted : Fonts → Memories → Look → Region → List ℕ → List ℕ
-repainted e m look region frame = painted (named (look .view) (m .text) region) (atPlace (byteAt e m look)) frame
+unfoldable pub repainted : Layout → Fonts → Memories → Look → Region → List ℕ → List ℕ
+repainted l e m look region frame = painted (named l (look .view) (m .text) region) (on l (byteAt e m look)) frame
 
 -- the number of bytes named
-unfoldable pub countNamed : View → List ℕ → Region → ℕ
-countNamed v text region = count 1024 (named v text region)
+unfoldable pub countNamed : Layout → View → List ℕ → Region → ℕ
+countNamed l v text region = count (l .size) (named l v text region)
 
 -- what painting leaves: the count that it answers, and the frame
 pub record Painting : Type 0 where
@@ -37,15 +39,18 @@ pub record Painting : Type 0 where
 abbrev pub painting : ℕ → List ℕ → Painting
 painting n frame = record { count = n; frame = frame }
 
--- the places of a set are painted and counted
-abbrev pub paints : (ℕ → Bool) → (ℕ → ℕ) → List ℕ → Painting
-paints set bytes frame = painting (count 1024 set) (painted set bytes frame)
-
 -- a region is painted and counted
-abbrev pub repaint : Fonts → Memories → Look → Region → List ℕ → Painting
-repaint e m look region frame = painting (countNamed (look .view) (m .text) region) (repainted e m look region frame)
+abbrev pub repaint : Layout → Fonts → Memories → Look → Region → List ℕ → Painting
+repaint l e m look region frame = painting (countNamed l (look .view) (m .text) region) (repainted l e m look region frame)
 
 -- From here on no sentence of document 01, but what the contracts of the painting functions ask and promise.
+
+-- a set of places, of so many, is painted and counted; and a set of bytes of a glass
+abbrev pub paints : ℕ → (ℕ → Bool) → (ℕ → ℕ) → List ℕ → Painting
+paints size set bytes frame = painting (count size set) (painted set bytes frame)
+
+abbrev pub paintsOn : Layout → (ℕ → ℕ → Bool) → (ℕ → ℕ → ℕ) → List ℕ → Painting
+paintsOn l set bytes frame = paints (l .size) (on l set) (on l bytes) frame
 
 -- the most bytes that a region can have: two cells of 32, a glyph half 32, a graphic half its one
 abbrev pub mostOf : Region → ℕ
@@ -96,3 +101,7 @@ runEnd scroll line =
 -- the two columns of a cell
 abbrev pub inColumns : ℕ → ℕ → ℕ → Bool
 inColumns cell row column = eqb (column / 2) cell
+
+-- the byte that shows graphic row y at a column
+abbrev pub showsPlace : View → ℕ → ℕ → ℕ → ℕ → Bool
+showsPlace v y at row column = eqb (shownRow v row) y && eqb column at

@@ -7,15 +7,15 @@ use picture::tiles::tile_pair;
 ghost use mathlib.Core.Path.{_≡_};
 ghost use Prim.Native.Nat.{_+_, _*_, _<_, _≤_};
 ghost use lib.ListN.{length};
-ghost use Rattle.base.specs.Painting.{painted, between};
+ghost use Rattle.base.specs.Layout.{paintedOn, rows};
 ghost use Rattle.controller.specs.Memories.{before};
 ghost use Rattle.controller.specs.Named.{inCell, inSomeCell};
-ghost use Rattle.picture.specs.Picture.{fonts, byteAt, atPlace, inCellRow};
-ghost use Rattle.picture.specs.Tiles.{shownBy};
-ghost use Rattle.repaint.specs.Repaint.{ViewWithin, painting, paints, cellWithin, runFirst, runEnd, inColumns};
+ghost use Rattle.picture.specs.Picture.{fonts, byteAt, wide};
+ghost use Rattle.picture.specs.Tiles.{shownBy, inCellRow};
+ghost use Rattle.repaint.specs.Repaint.{ViewWithin, painting, paintsOn, cellWithin, runFirst, runEnd, inColumns};
 
 // The first row of the glass that shows a line of text, and the row after the last; both 0 where none shows it.
-fn run_first(scroll: usize, line: usize) -> usize
+fn run_first(scroll: u32, line: u32) -> u32
     requires { ⌜ (scroll < 64) × (line < 4) ⌝ }
     ensures { λ r. ⌜ r ≡ runFirst scroll line ⌝ }
 {
@@ -23,7 +23,7 @@ fn run_first(scroll: usize, line: usize) -> usize
     if top < 32 { top } else { 0 }
 }
 
-fn run_end(scroll: usize, line: usize) -> usize
+fn run_end(scroll: u32, line: u32) -> u32
     requires { ⌜ (scroll < 64) × (line < 4) ⌝ }
     ensures { λ r. ⌜ r ≡ runEnd scroll line ⌝ }
 {
@@ -45,15 +45,15 @@ fn paint_cell_row(
     tile: &[u8],
     graphic: &[u8; 2048],
     look: Look,
-    row: usize,
-    cell: usize,
+    row: u32,
+    cell: u32,
     frame: &mut [u8],
 )
     requires { ⌜ (row < 32) × (cell < 16) × (length (now tile) ≡ 32) × (length (now frame) ≡ 1024) ⌝ }
-    ensures { λ _. ⌜ now (frame .exit) ≡ painted (atPlace (inCellRow row cell)) (atPlace (shownBy (now (tile .entry)) (now (graphic .entry)) look)) (now (frame .entry)) ⌝ }
+    ensures { λ _. ⌜ now (frame .exit) ≡ paintedOn wide (inCellRow row cell) (shownBy (now (tile .entry)) (now (graphic .entry)) look) (now (frame .entry)) ⌝ }
 {
     let pair = tile_pair(tile, graphic, look, row, cell);
-    let start = 32 * row + 2 * cell;
+    let start = 32 * (row as usize) + 2 * (cell as usize);
     let end = start + 2;
     paint_row(&mut frame[start..end], pair);
 }
@@ -63,15 +63,15 @@ fn paint_rows(
     tile: &[u8],
     graphic: &[u8; 2048],
     look: Look,
-    cell: usize,
-    first: usize,
-    end: usize,
+    cell: u32,
+    first: u32,
+    end: u32,
     frame: &mut [u8],
-) -> usize
+) -> u32
     requires { ⌜ (cell < 16) × (first ≤ end) × (end ≤ 32) × (length (now tile) ≡ 32) × (length (now frame) ≡ 1024) ⌝ }
-    ensures { λ r. ⌜ painting r (now (frame .exit)) ≡ paints (between (32 * first) (32 * end) (atPlace (inColumns cell))) (atPlace (shownBy (now (tile .entry)) (now (graphic .entry)) look)) (now (frame .entry)) ⌝ }
+    ensures { λ r. ⌜ painting r (now (frame .exit)) ≡ paintsOn wide (rows first end (inColumns cell)) (shownBy (now (tile .entry)) (now (graphic .entry)) look) (now (frame .entry)) ⌝ }
 {
-    let mut count: usize = 0;
+    let mut count: u32 = 0;
     let mut row = first;
     while row < end {
         paint_cell_row(tile, graphic, look, row, cell, frame);
@@ -87,15 +87,15 @@ fn paint_word(
     glyph: &[u8; 128],
     graphic: &[u8; 2048],
     look: Look,
-    word: usize,
+    word: u32,
     frame: &mut [u8],
     half: &[u8],
     full: &[u8],
-) -> usize
+) -> u32
     requires { ⌜ ViewWithin (look .view) × (word < 64) × (length (now frame) ≡ 1024) × (length (now half) ≡ 2048) ⌝ }
-    ensures { λ r. ⌜ painting r (now (frame .exit)) ≡ paints (atPlace (inCell (look .view) word)) (atPlace (byteAt (fonts half full) (before text glyph graphic) look)) (now (frame .entry)) ⌝ }
+    ensures { λ r. ⌜ painting r (now (frame .exit)) ≡ paintsOn wide (inCell (look .view) word) (byteAt (fonts half full) (before text glyph graphic) look) (now (frame .entry)) ⌝ }
 {
-    let scroll = look.view.scroll as usize;
+    let scroll = look.view.scroll as u32;
     let line = word / 16;
     let first = run_first(scroll, line);
     let end = run_end(scroll, line);
@@ -104,7 +104,7 @@ fn paint_word(
     }
     let mut tile = [0u8; 32];
     lay_tile(text, glyph, look, word, &mut tile, half, full);
-    let cell = (word + 16 - look.view.shift as usize) % 16;
+    let cell = (word + 16 - look.view.shift as u32) % 16;
     paint_rows(&tile, graphic, look, cell, first, end, frame)
 }
 
@@ -118,21 +118,12 @@ pub(crate) fn paint_cell(
     frame: &mut [u8],
     half: &[u8],
     full: &[u8],
-) -> usize
+) -> u32
     requires { ⌜ ViewWithin (look .view) × cellWithin cell × (length (now frame) ≡ 1024) × (length (now half) ≡ 2048) ⌝ }
-    ensures { λ r. ⌜ painting r (now (frame .exit)) ≡ paints (atPlace (inSomeCell (look .view) cell)) (atPlace (byteAt (fonts half full) (before text glyph graphic) look)) (now (frame .entry)) ⌝ }
+    ensures { λ r. ⌜ painting r (now (frame .exit)) ≡ paintsOn wide (inSomeCell (look .view) cell) (byteAt (fonts half full) (before text glyph graphic) look) (now (frame .entry)) ⌝ }
 {
     match cell {
         Cell::Nowhere => 0,
-        Cell::Word(word) => paint_word(
-            text,
-            glyph,
-            graphic,
-            look,
-            word as usize,
-            frame,
-            half,
-            full,
-        ),
+        Cell::Word(word) => paint_word(text, glyph, graphic, look, word as u32, frame, half, full),
     }
 }

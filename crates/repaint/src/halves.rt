@@ -1,179 +1,132 @@
 // A half of a glyph or graphic word: the bytes that show it, one by one; the other byte of each pair keeps what it held.
+use crate::ImageByte;
 use controller::Image;
 use controller::named::image;
-use controller::places::half as half_of;
+use controller::places::word_place;
 use picture::Look;
 use picture::paint::byte_at;
+use picture::paint::byte_over;
 ghost use mathlib.Core.Path.{_≡_};
 ghost use Prim.Native.Nat.{_+_, _*_, _%_, _<_};
-ghost use lib.ListN.{length, set};
-ghost use Rattle.base.specs.Painting.{between};
-ghost use Rattle.controller.specs.Memories.{before};
-ghost use Rattle.controller.specs.Glass.{placeOf, wordImage, isImage};
-ghost use Rattle.controller.specs.Named.{showsGlyph, showsGraphic};
-ghost use Rattle.picture.specs.Picture.{fonts, byteAt, atPlace};
-ghost use Rattle.repaint.specs.Repaint.{ViewWithin, painting, paints};
+ghost use lib.ListN.{length, getD};
+ghost use Rattle.base.specs.Layout.{rows, columns};
+ghost use Rattle.controller.specs.Memories.{before, half, wordPlace};
+ghost use Rattle.controller.specs.Glass.{wordImage, isImage};
+ghost use Rattle.controller.specs.Named.{showsGlyph};
+ghost use Rattle.picture.specs.Picture.{fonts, byteOver, byteAt, wide};
+ghost use Rattle.repaint.specs.Repaint.{ViewWithin, painting, paintsOn, showsPlace};
+
+// The column of a half of the sixteen words of a row.
+pub(crate) fn byte_column(word: u32, low: bool) -> u32
+    requires { ⌜ word < 16 ⌝ }
+    ensures { λ r. ⌜ r ≡ 2 * word + half low ⌝ }
+    ensures inside { λ r. ⌜ r < 32 ⌝ }
+{
+    if low { 2 * word + 1 } else { 2 * word }
+}
 
 // Whether a text word shows an image.
-fn shows_image(text: &[u8; 128], word: usize, number: usize) -> bool
+fn shows_image(text: &[u8; 128], word: u32, number: u8) -> bool
     requires { ⌜ word < 64 ⌝ }
     ensures { λ r. ⌜ r ≡ isImage (wordImage (now (text .entry)) word) number ⌝ }
 {
-    let at = 2 * word;
+    let at = 2 * (word as usize);
     let found = image(text[at], text[at + 1]);
     match found {
         Image::Nothing => false,
-        Image::Number(i) => i as usize == number,
+        Image::Number(i) => i == number,
     }
 }
 
-// One byte of the glass.
-fn paint_byte(
-    text: &[u8; 128],
-    glyph: &[u8; 128],
-    graphic: &[u8; 2048],
-    look: Look,
-    row: usize,
-    column: usize,
-    frame: &mut [u8],
-    half: &[u8],
-    full: &[u8],
-)
-    requires { ⌜ (row < 32) × (column < 32) × (length (now frame) ≡ 1024) × (length (now half) ≡ 2048) ⌝ }
-    ensures { λ _. ⌜ now (frame .exit) ≡ set (now (frame .entry)) (placeOf row column) (byteAt (fonts half full) (before text glyph graphic) look row column) ⌝ }
-{
-    let byte = byte_at(text, glyph, graphic, look, row, column, half, full);
-    let place = 32 * row + column;
-    frame[place] = byte;
-}
-
-// One cell of a row that shows the glyph row, where its word shows the image.
+// One cell of a row that shows the image's row, where its word shows the image.
 fn paint_if_image(
     text: &[u8; 128],
-    glyph: &[u8; 128],
     graphic: &[u8; 2048],
     look: Look,
-    word: usize,
-    low: bool,
-    row: usize,
-    cell: usize,
+    part: ImageByte,
+    row: u32,
+    cell: u32,
     frame: &mut [u8],
-    half: &[u8],
-    full: &[u8],
-) -> usize
-    requires { ⌜ ((row + look .view .scroll) % 64 % 16 ≡ word % 16) × (row < 32) × (cell < 16) × (length (now frame) ≡ 1024) × (length (now half) ≡ 2048) ⌝ }
-    ensures { λ r. ⌜ painting r (now (frame .exit)) ≡ paints (between (32 * row + 2 * cell) (32 * row + 2 * cell + 2) (atPlace (showsGlyph (look .view) (now (text .entry)) word low))) (atPlace (byteAt (fonts half full) (before text glyph graphic) look)) (now (frame .entry)) ⌝ }
+) -> u32
+    requires { ⌜ ((row + look .view .scroll) % 64 % 16 ≡ part .word % 16) × (row < 32) × (cell < 16) × (length (now frame) ≡ 1024) ⌝ }
+    ensures { λ r. ⌜ painting r (now (frame .exit)) ≡ paintsOn wide (columns (2 * cell) (2 * cell + 2) (rows row (row + 1) (showsGlyph (look .view) (now (text .entry)) (part .word) (part .low)))) (byteOver (part .dots) (now (graphic .entry)) look) (now (frame .entry)) ⌝ }
 {
-    let s = (row + look.view.scroll as usize) % 64;
-    let shown = 16 * (s / 16) + (cell + look.view.shift as usize) % 16;
-    if shows_image(text, shown, word / 16) {
-        let column = 2 * cell + half_of(low);
-        paint_byte(text, glyph, graphic, look, row, column, frame, half, full);
+    let s = (row + look.view.scroll as u32) % 64;
+    let shown = 16 * (s / 16) + (cell + look.view.shift as u32) % 16;
+    if shows_image(text, shown, part.word / 16) {
+        let column = byte_column(cell, part.low);
+        let place = 32 * row + column;
+        frame[place as usize] = byte_over(graphic, look, row, column, part.dots);
         return 1;
     }
     0
 }
 
-// One row of the glass that shows the glyph row.
-fn paint_glyph_row(
+// One row of the glass that shows the image's row.
+fn paint_image_row(
     text: &[u8; 128],
-    glyph: &[u8; 128],
     graphic: &[u8; 2048],
     look: Look,
-    word: usize,
-    low: bool,
-    row: usize,
+    part: ImageByte,
+    row: u32,
     frame: &mut [u8],
-    half: &[u8],
-    full: &[u8],
-) -> usize
-    requires { ⌜ ((row + look .view .scroll) % 64 % 16 ≡ word % 16) × (row < 32) × (length (now frame) ≡ 1024) × (length (now half) ≡ 2048) ⌝ }
-    ensures { λ r. ⌜ painting r (now (frame .exit)) ≡ paints (between (32 * row) (32 * row + 32) (atPlace (showsGlyph (look .view) (now (text .entry)) word low))) (atPlace (byteAt (fonts half full) (before text glyph graphic) look)) (now (frame .entry)) ⌝ }
+) -> u32
+    requires { ⌜ ((row + look .view .scroll) % 64 % 16 ≡ part .word % 16) × (row < 32) × (length (now frame) ≡ 1024) ⌝ }
+    ensures { λ r. ⌜ painting r (now (frame .exit)) ≡ paintsOn wide (rows row (row + 1) (showsGlyph (look .view) (now (text .entry)) (part .word) (part .low))) (byteOver (part .dots) (now (graphic .entry)) look) (now (frame .entry)) ⌝ }
 {
-    let mut count: usize = 0;
-    let mut cell: usize = 0;
+    let mut count: u32 = 0;
+    let mut cell: u32 = 0;
     while cell < 16 {
-        count += paint_if_image(
-            text,
-            glyph,
-            graphic,
-            look,
-            word,
-            low,
-            row,
-            cell,
-            frame,
-            half,
-            full,
-        );
+        count += paint_if_image(text, graphic, look, part, row, cell, frame);
         cell += 1;
     }
     count
 }
 
-// A half of a glyph word: each byte showing that half of that image row. A glyph row shows on two rows of the glass, sixteen apart.
+// A half of a glyph word: each byte showing that half of that image row. It shows on two rows of the glass, sixteen apart, and is the
+// same byte before what lies over it.
 pub(crate) fn paint_glyph_half(
     text: &[u8; 128],
     glyph: &[u8; 128],
     graphic: &[u8; 2048],
     look: Look,
-    word: usize,
+    word: u8,
     low: bool,
     frame: &mut [u8],
-    half: &[u8],
-    full: &[u8],
-) -> usize
-    requires { ⌜ (length (now frame) ≡ 1024) × (length (now half) ≡ 2048) ⌝ }
-    ensures { λ r. ⌜ painting r (now (frame .exit)) ≡ paints (atPlace (showsGlyph (look .view) (now (text .entry)) word low)) (atPlace (byteAt (fonts half full) (before text glyph graphic) look)) (now (frame .entry)) ⌝ }
+) -> u32
+    requires { ⌜ (word < 64) × (length (now frame) ≡ 1024) ⌝ }
+    ensures { λ r. ⌜ painting r (now (frame .exit)) ≡ paintsOn wide (showsGlyph (look .view) (now (text .entry)) word low) (byteOver (getD (now (glyph .entry)) (wordPlace word low) 0) (now (graphic .entry)) look) (now (frame .entry)) ⌝ }
 {
-    let row = (word % 16 + 256 - look.view.scroll as usize) % 16;
-    let count = paint_glyph_row(
-        text,
-        glyph,
-        graphic,
-        look,
+    let at = word_place(word, low);
+    let part = ImageByte {
         word,
         low,
-        row,
-        frame,
-        half,
-        full,
-    );
-    count
-        + paint_glyph_row(
-            text,
-            glyph,
-            graphic,
-            look,
-            word,
-            low,
-            row + 16,
-            frame,
-            half,
-            full,
-        )
+        dots: glyph[at],
+    };
+    let row = ((word % 16) as u32 + 256 - look.view.scroll as u32) % 16;
+    let count = paint_image_row(text, graphic, look, part, row, frame);
+    count + paint_image_row(text, graphic, look, part, row + 16, frame)
 }
 
-// A half of a graphic word: its byte, if visible.
-pub(crate) fn paint_graphic_half(
+// The byte of graphic row y at a column, if visible.
+pub(crate) fn paint_graphic_byte(
     text: &[u8; 128],
     glyph: &[u8; 128],
     graphic: &[u8; 2048],
     look: Look,
-    y: usize,
-    column: usize,
-    low: bool,
+    y: u32,
+    column: u32,
     frame: &mut [u8],
     half: &[u8],
     full: &[u8],
-) -> usize
-    requires { ⌜ ViewWithin (look .view) × (y < 64) × (column < 16) × (length (now frame) ≡ 1024) × (length (now half) ≡ 2048) ⌝ }
-    ensures { λ r. ⌜ painting r (now (frame .exit)) ≡ paints (atPlace (showsGraphic (look .view) y column low)) (atPlace (byteAt (fonts half full) (before text glyph graphic) look)) (now (frame .entry)) ⌝ }
+) -> u32
+    requires { ⌜ ViewWithin (look .view) × (y < 64) × (column < 32) × (length (now frame) ≡ 1024) × (length (now half) ≡ 2048) ⌝ }
+    ensures { λ r. ⌜ painting r (now (frame .exit)) ≡ paintsOn wide (showsPlace (look .view) y column) (byteAt (fonts half full) (before text glyph graphic) look) (now (frame .entry)) ⌝ }
 {
-    let row = (y + 64 - look.view.scroll as usize) % 64;
+    let row = (y + 64 - look.view.scroll as u32) % 64;
     if row < 32 {
-        let at = 2 * column + half_of(low);
-        paint_byte(text, glyph, graphic, look, row, at, frame, half, full);
+        let place = 32 * row + column;
+        frame[place as usize] = byte_at(text, glyph, graphic, look, row, column, half, full);
         return 1;
     }
     0

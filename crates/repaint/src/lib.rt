@@ -5,3 +5,10 @@ mod halves;
 mod regions;
 
 pub use regions::paint;
+
+// One byte of an image: a half of a glyph word, and the dots that it holds.
+pub(crate) struct ImageByte {
+    pub word: u8,
+    pub low: bool,
+    pub dots: u8,
+}

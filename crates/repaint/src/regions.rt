@@ -1,7 +1,8 @@
 // A region, whatever it is.
 use crate::cells::paint_cell;
+use crate::halves::byte_column;
 use crate::halves::paint_glyph_half;
-use crate::halves::paint_graphic_half;
+use crate::halves::paint_graphic_byte;
 use controller::Cell;
 use controller::Region;
 use picture::Look;
@@ -11,7 +12,7 @@ ghost use Prim.Native.Nat.{_≤_};
 ghost use lib.ListN.{length};
 ghost use Rattle.controller.specs.Memories.{before};
 ghost use Rattle.controller.specs.declared.Region.the-variants.{Cells};
-ghost use Rattle.picture.specs.Picture.{fonts};
+ghost use Rattle.picture.specs.Picture.{fonts, wide};
 ghost use Rattle.repaint.specs.Repaint.{ViewWithin, painting, repaint, cellWithin, regionWithin, mostOf, sameCell};
 
 // Whether two cells are one: then it is painted and counted once.
@@ -37,9 +38,9 @@ fn paint_cells(
     frame: &mut [u8],
     half: &[u8],
     full: &[u8],
-) -> usize
+) -> u32
     requires { ⌜ ViewWithin (look .view) × cellWithin a × cellWithin b × (length (now frame) ≡ 1024) × (length (now half) ≡ 2048) ⌝ }
-    ensures { λ r. ⌜ painting r (now (frame .exit)) ≡ repaint (fonts half full) (before text glyph graphic) look (Cells a b) (now (frame .entry)) ⌝ }
+    ensures { λ r. ⌜ painting r (now (frame .exit)) ≡ repaint wide (fonts half full) (before text glyph graphic) look (Cells a b) (now (frame .entry)) ⌝ }
 {
     let first = paint_cell(text, glyph, graphic, look, a, frame, half, full);
     if same_cell(a, b) {
@@ -60,7 +61,7 @@ pub fn paint(
     full: &[u8],
 ) -> usize
     requires { ⌜ ViewWithin (look .view) × regionWithin region × (length (now frame) ≡ 1024) × (length (now half) ≡ 2048) ⌝ }
-    ensures { λ r. ⌜ painting r (now (frame .exit)) ≡ repaint (fonts half full) (before text glyph graphic) look region (now (frame .entry)) ⌝ }
+    ensures { λ r. ⌜ painting r (now (frame .exit)) ≡ repaint wide (fonts half full) (before text glyph graphic) look region (now (frame .entry)) ⌝ }
     ensures most { λ r. ⌜ r ≤ mostOf region ⌝ }
 {
     match region {
@@ -69,29 +70,25 @@ pub fn paint(
             paint_whole(text, glyph, graphic, look, frame, half, full);
             1024
         }
-        Region::Cells(a, b) => { paint_cells(text, glyph, graphic, look, a, b, frame, half, full) }
-        Region::GlyphHalf { word, low } => paint_glyph_half(
-            text,
-            glyph,
-            graphic,
-            look,
-            word as usize,
-            low,
-            frame,
-            half,
-            full,
-        ),
-        Region::GraphicHalf { row, column, low } => paint_graphic_half(
-            text,
-            glyph,
-            graphic,
-            look,
-            row as usize,
-            column as usize,
-            low,
-            frame,
-            half,
-            full,
-        ),
+        Region::Cells(a, b) => {
+            paint_cells(text, glyph, graphic, look, a, b, frame, half, full) as usize
+        }
+        Region::GlyphHalf { word, low } => {
+            paint_glyph_half(text, glyph, graphic, look, word, low, frame) as usize
+        }
+        Region::GraphicHalf { row, column, low } => {
+            let at = byte_column(column as u32, low);
+            paint_graphic_byte(
+                text,
+                glyph,
+                graphic,
+                look,
+                row as u32,
+                at,
+                frame,
+                half,
+                full,
+            ) as usize
+        }
     }
 }

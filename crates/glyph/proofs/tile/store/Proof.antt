@@ -5,7 +5,7 @@ use Prim.Native.Nat.{_+_, _*_, _-_, _/_, _≤_, _<_}
 use lib.ListN.{length, getD}
 use mathlib.Core.Path.{_≡_, refl}
 use Rattle.base.specs.Painting.{painted, everywhere, between}
-use Rattle.glyph.proofs.Copies.{none-yet, one-further, block-at}
+use Rattle.base.proofs.Copies.{none-yet, one-further, block-at}
 use Rattle.glyph.proofs.tile.store.Statement.{statement}
 use Rattle.glyph.proofs.tile.store.Tie as tie
 
@@ -22,6 +22,7 @@ store-spec =
     Inv-loop
     μ-loop
     (λ c. (search needs, search needs, none-yet _ _ _))
+    (λ c. search needs)
     (λ c. search needs)
     (λ c. search needs)
     (λ c. search needs)

@@ -7,7 +7,7 @@ use mathlib.Core.Path.{_≡_, refl}
 use Rattle.base.specs.Painting.{painted, everywhere, between}
 use Rattle.base.specs.Choice.{if_then_else_}
 use Rattle.glyph.specs.Tiles.{beside}
-use Rattle.glyph.proofs.Copies.{none-yet}
+use Rattle.base.proofs.Copies.{none-yet}
 use Rattle.glyph.proofs.Tiles.{row-further}
 use Rattle.glyph.proofs.tile.store_beside.Statement.{statement}
 use Rattle.glyph.proofs.tile.store_beside.Tie as tie
@@ -25,6 +25,7 @@ store-beside-spec =
     Inv-loop
     μ-loop
     (λ c. (search needs, search needs, none-yet _ _ _))
+    (λ c. search needs)
     (λ c. search needs)
     (λ c. search needs)
     (λ c. search needs)

@@ -6,7 +6,7 @@ use lib.ListN.{length, getD}
 use mathlib.Core.Path.{_≡_, refl}
 use Rattle.base.specs.Painting.{painted, everywhere, between}
 use Rattle.base.proofs.Loops.{paint-begin, paint-every}
-use Rattle.glyph.proofs.Copies.{one-further}
+use Rattle.base.proofs.Copies.{one-further}
 use Rattle.glyph.proofs.tile.taken.Statement.{statement}
 use Rattle.glyph.proofs.tile.taken.Tie as tie
 
@@ -23,6 +23,7 @@ taken-spec =
     Inv-loop
     μ-loop
     (λ c. (search needs, paint-begin everywhere _ _ 0))
+    (λ c. search needs)
     (λ c. search needs)
     (λ c. search needs)
     (λ c. search needs)

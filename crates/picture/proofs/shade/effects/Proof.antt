@@ -13,4 +13,5 @@ effects-spec =
     (λ c κs. search needs)
     (λ c κs. search needs)
     (λ c. search needs)
+    (λ c. search needs)
     (λ c. rw (c .both3 .ensures, c .before .both2 .ensures, c .before .before .both .ensures)))

@@ -6,8 +6,7 @@ use lib.ListN.{length, getD, length-set}
 use mathlib.Core.Path.{_≡_, refl, sym, ap, _∙_}
 use Rattle.base.specs.Painting.{painted, everywhere, between}
 use Rattle.base.proofs.Loops.{paint-begin}
-use Rattle.glyph.proofs.Copies.{one-further}
-use Rattle.picture.proofs.Laid.{not-yet}
+use Rattle.base.proofs.Copies.{one-further, not-yet}
 use Rattle.picture.proofs.tiles.invert.Statement.{statement}
 use Rattle.picture.proofs.tiles.invert.Tie as tie
 
@@ -24,6 +23,7 @@ invert-spec =
     Inv-loop
     μ-loop
     (λ c. (search needs, search needs, search needs, paint-begin everywhere _ _ _))
+    (λ c. search needs)
     (λ c. search needs)
     (λ c. omega (arith, c .slice-known .given (c .before .before .loop .i)))
     (λ c. search needs)

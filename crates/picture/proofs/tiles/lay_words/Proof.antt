@@ -6,14 +6,14 @@ use lib.ListN.{length, getD, length-set}
 use mathlib.Core.Path.{_≡_, refl, sym, ap, _∙_}
 use Rattle.base.specs.Painting.{painted, everywhere, between}
 use Rattle.base.proofs.Loops.{paint-begin, paint-every}
-use Rattle.picture.specs.Picture.{atPlace}
-use Rattle.picture.specs.Tiles.{wordDots, lineWord}
-use Rattle.picture.proofs.Laid.{as-long, words-turn}
+use Rattle.picture.specs.Tiles.{wordDots, lineWord, byTile}
+use Rattle.picture.proofs.Laid.{words-turn}
+use Rattle.base.proofs.Painting.{as-long}
 use Rattle.picture.proofs.tiles.lay_words.Statement.{statement}
 use Rattle.picture.proofs.tiles.lay_words.Tie as tie
 
 abbrev Inv-loop : tie.InvT-loop
-Inv-loop text glyph shift line tiles₀ half full cell₀ tiles cell = (cell ≤ 16) × (length tiles ≡ 512) × (tiles ≡ painted (between 0 (32 * cell) everywhere) (atPlace (λ k j. wordDots (record { half = half; full = full }) text glyph (lineWord shift line k) j)) tiles₀)
+Inv-loop text glyph shift line tiles₀ half full cell₀ tiles cell = (cell ≤ 16) × (length tiles ≡ 512) × (tiles ≡ painted (between 0 (32 * cell) everywhere) (byTile (λ k j. wordDots (record { half = half; full = full }) text glyph (lineWord shift line k) j)) tiles₀)
 
 abbrev μ-loop : tie.MeasureT-loop
 μ-loop text glyph shift line tiles₀ half full cell₀ tiles cell = 16 - cell
@@ -25,6 +25,7 @@ lay-words-spec =
     Inv-loop
     μ-loop
     (λ c. (search needs, search needs, paint-begin everywhere _ _ 0))
+    (λ c. search needs)
     (λ c. search needs)
     (λ c. search needs)
     (λ c. search needs)

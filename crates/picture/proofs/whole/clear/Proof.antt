@@ -6,7 +6,7 @@ use lib.ListN.{length, getD, length-set}
 use mathlib.Core.Path.{_≡_, refl, sym, ap, _∙_}
 use Rattle.base.specs.Painting.{painted, everywhere, between}
 use Rattle.base.proofs.Loops.{paint-begin, paint-every}
-use Rattle.glyph.proofs.Copies.{one-further}
+use Rattle.base.proofs.Copies.{one-further}
 use Rattle.picture.proofs.whole.clear.Statement.{statement}
 use Rattle.picture.proofs.whole.clear.Tie as tie
 
@@ -23,6 +23,7 @@ clear-spec =
     Inv-loop
     μ-loop
     (λ c. (search needs, search needs, paint-begin everywhere _ _ 0))
+    (λ c. search needs)
     (λ c. search needs)
     (λ c. search needs)
     (λ c. search needs)

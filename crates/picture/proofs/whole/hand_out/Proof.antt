@@ -6,13 +6,14 @@ use lib.ListN.{length, getD, length-set}
 use mathlib.Core.Path.{_≡_, refl, sym, ap, _∙_}
 use Rattle.base.specs.Painting.{painted, everywhere, between}
 use Rattle.base.proofs.Loops.{paint-begin}
-use Rattle.picture.specs.Tiles.{handed}
-use Rattle.picture.proofs.Laid.{as-long, out-turn}
+use Rattle.picture.specs.Tiles.{fromTiles}
+use Rattle.picture.proofs.Laid.{out-turn}
+use Rattle.base.proofs.Painting.{as-long}
 use Rattle.picture.proofs.whole.hand_out.Statement.{statement}
 use Rattle.picture.proofs.whole.hand_out.Tie as tie
 
 abbrev Inv-loop : tie.InvT-loop
-Inv-loop tiles scroll row end frame₀ r₀ frame r = (row ≤ r) × (r ≤ end) × (length frame ≡ 1024) × (frame ≡ painted (between (32 * row) (32 * r) everywhere) (λ i. handed tiles ((i / 32 + scroll) % 16) i) frame₀)
+Inv-loop tiles scroll row end frame₀ r₀ frame r = (row ≤ r) × (r ≤ end) × (length frame ≡ 1024) × (frame ≡ painted (between (32 * row) (32 * r) everywhere) (λ i. fromTiles tiles ((i / 32 + scroll) % 16) i) frame₀)
 
 abbrev μ-loop : tie.MeasureT-loop
 μ-loop tiles scroll row end frame₀ r₀ frame r = end - r

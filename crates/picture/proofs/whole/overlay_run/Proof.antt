@@ -6,7 +6,7 @@ use lib.ListN.{length, getD, length-set}
 use mathlib.Core.Path.{_≡_, refl, sym, ap, _∙_}
 use Rattle.base.specs.Painting.{painted, everywhere, between}
 use lib.Bits.{bitXor}
-use Rattle.glyph.proofs.Copies.{none-yet}
+use Rattle.base.proofs.Copies.{none-yet}
 use Rattle.picture.proofs.Laid.{over-turn}
 use Rattle.picture.proofs.whole.overlay_run.Statement.{statement}
 use Rattle.picture.proofs.whole.overlay_run.Tie as tie
@@ -24,6 +24,7 @@ overlay-run-spec =
     Inv-loop
     μ-loop
     (λ c. (search needs, search needs, none-yet _ _ _))
+    (λ c. search needs)
     (λ c. search needs)
     (λ c. search needs)
     (λ c. search needs)

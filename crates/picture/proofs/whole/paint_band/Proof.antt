@@ -7,7 +7,8 @@ use mathlib.Core.Path.{_≡_, refl, sym, ap, _∙_}
 use Rattle.base.specs.Painting.{painted, everywhere, between}
 use Rattle.controller.specs.Memories.{memories}
 use Rattle.base.proofs.Lists.{length-upto}
-use Rattle.picture.proofs.Laid.{as-long, band-bounds, over-fits, band-painted}
+use Rattle.base.proofs.Painting.{as-long}
+use Rattle.picture.proofs.Laid.{band-bounds, over-fits, band-painted}
 use Rattle.picture.proofs.whole.paint_band.Statement.{statement}
 use Rattle.picture.proofs.whole.paint_band.Tie as tie
 
@@ -22,6 +23,7 @@ paint-band-spec =
     (λ c κs. search needs)
     (λ c. search needs)
     (λ c κs. let a = c .before .before .before .before .before .before .before .before .before .before .args in let e = c .before .before .before .before .before .band-end .ensures in let q = band-bounds (a .row) ((a .row + a .look .view .scroll) % 64) (c .before .before .before .before .before .before .before .before .before .before .pre .1) in (omega (arith, c .before .before .before .before .before .before .before .before .before .before .good .1 .1 .1 .0), omega arith, omega arith, ap length (c .before .before .before .lay-line .ensures) ∙ length-upto 512 _, search needs))
+    (λ c. search needs)
     (λ c. search needs)
     (λ c. search needs)
     (λ c. let a = c .before .before .before .before .before .before .before .before .before .before .before .before .before .before .args in let e = c .before .before .before .before .before .before .before .before .before .band-end .ensures in let q = band-bounds (a .row) ((a .row + a .look .view .scroll) % 64) (c .before .before .before .before .before .before .before .before .before .before .before .before .before .before .pre .1) in omega arith)

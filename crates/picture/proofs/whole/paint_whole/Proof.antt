@@ -4,17 +4,19 @@ use native.Mathlib.Omega.{arith}
 use Prim.Native.Nat.{ℕ, _+_, _*_, _-_, _/_, _%_, _≤_, _<_}
 use lib.ListN.{length, getD, length-set}
 use mathlib.Core.Path.{_≡_, refl, sym, ap, _∙_}
-use Rattle.base.specs.Painting.{painted, everywhere, between}
-use Rattle.base.proofs.Loops.{paint-begin}
+use Rattle.base.specs.Layout.{paintedOn}
+use Rattle.base.proofs.Painting.{as-long, painted-none}
+use Rattle.base.proofs.Layouts.{rows-none}
 use Rattle.controller.specs.Memories.{memories}
-use Rattle.picture.specs.Picture.{byteAt, atPlace, picture}
-use Rattle.picture.proofs.CellRows.{rows-end}
-use Rattle.picture.proofs.Laid.{as-long, dark-picture, bands-turn}
+use Rattle.picture.specs.Picture.{byteAt, wide, picture}
+use Rattle.picture.specs.Tiles.{inRows}
+use Rattle.picture.proofs.Laid.{dark-picture}
+use Rattle.picture.proofs.Wide.{bands-begin, bands-turn, bands-end}
 use Rattle.picture.proofs.whole.paint_whole.Statement.{statement}
 use Rattle.picture.proofs.whole.paint_whole.Tie as tie
 
 abbrev Inv-loop : tie.InvT-loop
-Inv-loop text glyph graphic look frame₀ half full row₀ frame row = (row ≤ 32) × (length frame ≡ 1024) × (frame ≡ painted (between 0 (32 * row) everywhere) (atPlace (byteAt (record { half = half; full = full }) (memories text glyph graphic) look)) frame₀)
+Inv-loop text glyph graphic look frame₀ half full row₀ frame row = (row ≤ 32) × (length frame ≡ 1024) × (frame ≡ paintedOn wide (inRows 0 row) (byteAt (record { half = half; full = full }) (memories text glyph graphic) look) frame₀)
 
 abbrev μ-loop : tie.MeasureT-loop
 μ-loop text glyph graphic look frame₀ half full row₀ frame row = 32 - row
@@ -29,9 +31,9 @@ paint-whole-spec =
     (λ c κs. search needs)
     (λ c. search needs)
     (λ c. c .before .before .clear .ensures ∙ dark-picture _ _ _ (c .before .before .before .before .if1 .taken))
-    (λ c. (search needs, search needs, paint-begin everywhere _ _ 0))
+    (λ c. (search needs, search needs, bands-begin (byteAt _ _ _) _))
     (λ c κs. (c .before .before .before .if1 .left, search needs, search needs, search needs))
     (λ c. let e = c .before .before .paint-band .ensures .0 in omega arith)
-    (λ c. let l = c .before .before .before .before .before .loop in let e = c .before .before .paint-band .ensures in (e .0 .1, as-long _ _ _ _ (e .1) ∙ l .inv .1, bands-turn _ _ _ _ _ _ (e .0 .0) (l .inv .2) (e .1)))
+    (λ c. let l = c .before .before .before .before .before .loop in let e = c .before .before .paint-band .ensures in (e .0 .1, as-long _ _ _ _ (e .1) ∙ l .inv .1, bands-turn (byteAt _ _ _) _ _ _ _ _ (e .0 .0) (l .inv .2) (e .1)))
     (λ c. search needs)
-    (λ c. let l = c .before .loop in let k : l .row ≡ 32 = omega arith in rows-end _ _ _ _ k (c .before .before .before .before .before .before .pre .0) (l .inv .2)))
+    (λ c. let l = c .before .loop in let k : l .row ≡ 32 = omega arith in bands-end (byteAt _ _ _) _ _ _ k (c .before .before .before .before .before .before .pre .0) (l .inv .2)))

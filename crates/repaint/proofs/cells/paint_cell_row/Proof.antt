@@ -4,10 +4,9 @@ use native.Mathlib.Omega.{arith}
 use Prim.Native.Nat.{ℕ, _+_, _*_, _-_, _/_, _%_, _≤_, _<_}
 use lib.ListN.{length}
 use mathlib.Core.Path.{_≡_, refl, sym, ap, _∙_}
-use Rattle.base.specs.Painting.{painted, between}
 use Rattle.base.proofs.Parts.{put-pair}
 use Rattle.picture.specs.Tiles.{shownBy}
-use Rattle.picture.proofs.CellRows.{pair-row-painted}
+use Rattle.picture.proofs.Wide.{cell-row-painted}
 use Rattle.repaint.proofs.cells.paint_cell_row.Statement.{statement}
 use Rattle.repaint.proofs.cells.paint_cell_row.Tie as tie
 
@@ -25,4 +24,4 @@ paint-cell-row-spec =
     (λ c. search needs)
     (λ c κs. search needs)
     (λ c. search needs)
-    (λ c. let a = c .before .before .before .before .before .before .before .args in let p = c .before .before .before .before .before .before .before .pre in let h : 32 * a .row + 2 * a .cell + 2 ≤ length (a .frame .now) = omega arith in rw (c .before .before .paint-row .ensures, c .before .before .before .before .tile-pair .ensures) (put-pair _ _ _ _ h ∙ pair-row-painted (shownBy (a .tile .now) (a .graphic .now) (a .look)) _ _ _ (p .0) (p .1) (p .3))))
+    (λ c. let a = c .before .before .before .before .before .before .before .args in let p = c .before .before .before .before .before .before .before .pre in let h : 32 * a .row + 2 * a .cell + 2 ≤ length (a .frame .now) = omega arith in rw (c .before .before .paint-row .ensures, c .before .before .before .before .tile-pair .ensures) (put-pair _ _ _ _ h ∙ cell-row-painted (shownBy (a .tile .now) (a .graphic .now) (a .look)) _ _ _ (p .0) (p .1) (p .3))))

@@ -4,9 +4,9 @@ use native.Mathlib.Omega.{arith}
 use Prim.Native.Nat.{ℕ, _+_, _*_, _-_, _/_, _%_, _≤_, _<_}
 use lib.ListN.{length}
 use mathlib.Core.Path.{_≡_, refl, sym, ap, _∙_}
-use Rattle.base.specs.Painting.{painted, between}
 use Rattle.base.proofs.Lists.{length-upto}
 use Rattle.controller.specs.Memories.{memories}
+use Rattle.picture.specs.Picture.{byteAt}
 use Rattle.repaint.proofs.CellTurns.{runs, word-hidden, word-painted}
 use Rattle.repaint.proofs.cells.paint_word.Statement.{statement}
 use Rattle.repaint.proofs.cells.paint_word.Tie as tie
@@ -18,7 +18,7 @@ paint-word-spec =
     (λ c. search needs)
     (λ c κs. search needs)
     (λ c κs. search needs)
-    (λ c. let a = c .before .before .before .before .before .before .before .args in let p = c .before .before .before .before .before .before .before .pre in word-hidden (record { half = a .half .now; full = a .full .now }) (memories (a .text .now) (a .glyph .now) (a .graphic .now)) (a .look) (a .word) (p .0) (p .1) (a .frame .now) (p .2) _ (sym (c .before .run-end .ensures) ∙ c .if1 .taken))
+    (λ c. let a = c .before .before .before .before .before .before .before .args in let p = c .before .before .before .before .before .before .before .pre in word-hidden (record { half = a .half .now; full = a .full .now }) (memories (a .text .now) (a .glyph .now) (a .graphic .now)) (a .look) (a .word) (p .0) (p .1) (a .frame .now) (p .2) (byteAt _ _ _) (sym (c .before .run-end .ensures) ∙ c .if1 .taken))
     (λ c. search needs)
     (λ c κs. search needs)
     (λ c. search needs)

@@ -15,6 +15,5 @@ shows-image-spec =
     (λ c κs. search needs)
     (λ c. search needs)
     (λ c. search needs)
-    (λ c. search needs)
     (λ c. word-shows _ _ _ (c .before .before .image .ensures) (c .enum-told .given .1))
     (λ c. word-shows _ _ _ (c .before .before .before .image .ensures) (c .before .found .given .1)))
