@@ -22,7 +22,7 @@ use Rattle.picture.specs.Picture.{Seen}
 use Rattle.repaint.specs.Repaint.{regionWithin}
 use Rattle.repaint.proofs.RegionsWithin.{instruction-within, write-within, read-within}
 use Rattle.calls.specs.Calls.{Called, accepted, left}
-use Rattle.calls.specs.declared.Answer.{Answer}
+use Rattle.calls.specs.declared.LentOutcome.{LentOutcome}
 
 pub record Fit (d : Done) : Type 0 where
   pub control : InRange (d .control)
@@ -54,7 +54,7 @@ module _ (m : Memories) (c : Control) (r : InRange c) where
 
 -- and what is shown of it hands on controls in range
 pub shown-in-range :
-    (r : Answer) (m : Memories) (f g : List ℕ) (e : Seen) (done : Done) (rest : Rest)
+    (r : LentOutcome) (m : Memories) (f g : List ℕ) (e : Seen) (done : Done) (rest : Rest)
     → left r m f ≡ accepted e g (acted m done) rest
     → Fit done
     → InRange (r .control)

@@ -26,7 +26,7 @@ use Rattle.picture.specs.Refusals.{refusalOf}
 use Rattle.repaint.specs.Repaint.{repainted, countNamed}
 use Rattle.calls.specs.State.{State, freshState, Valid}
 use Rattle.calls.specs.Calls.{Called, refused, accepted, unlessOther, takenOn, Fits, called, left}
-use Rattle.calls.specs.declared.Answer.{Answer}
+use Rattle.calls.specs.declared.LentOutcome.{LentOutcome}
 
 pub fresh-state-valid : (made : Made) → Valid (freshState made)
 unfolding freshState
@@ -52,7 +52,7 @@ called-valid e s frame event v =
 
 -- so what a call leaves is valid
 pub left-valid :
-    (e : Seen) (s : State) (f g : List ℕ) (event : Event) (r : Answer) (m : Memories)
+    (e : Seen) (s : State) (f g : List ℕ) (event : Event) (r : LentOutcome) (m : Memories)
     → left r m g ≡ called e s f event
     → Valid s
     → controls.AllInRange m (r .control)

@@ -19,7 +19,7 @@ use Rattle.links.specs.Taken.{takenBy, replied}
 use Rattle.picture.specs.Picture.{Seen, fontsOf, lookOf}
 use Rattle.picture.specs.Refusals.{refusalOf}
 use Rattle.repaint.specs.Repaint.{repainted, countNamed}
-use Rattle.calls.specs.declared.Answer.{Answer}
+use Rattle.calls.specs.declared.LentOutcome.{LentOutcome}
 use Rattle.calls.specs.State.{State, state}
 
 -- all that a call leaves: the state, the refusal number, the reply, the count and the frame
@@ -71,11 +71,11 @@ called e s frame event =
     else refused s frame (refusalOf (length frame) (length (e .half)) (length (e .full)))
 
 -- the answer of a refused call on lent memories
-abbrev pub refusedAnswer : Control → Link → ℕ → Answer
-refusedAnswer c l number = record { control = c; link = l; number = number; reply = 0; count = 0 }
+abbrev pub refusedOutcome : Control → Link → ℕ → LentOutcome
+refusedOutcome c l number = record { control = c; link = l; number = number; reply = 0; count = 0 }
 
 -- what a call on lent memories leaves
-abbrev pub left : Answer → Memories → List ℕ → Called
+abbrev pub left : LentOutcome → Memories → List ℕ → Called
 left r m frame =
     record { state = state m (r .control) (r .link); number = r .number; reply = r .reply; count = r .count; frame = frame }
 

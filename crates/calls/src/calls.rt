@@ -1,6 +1,6 @@
 // The calls on memories that the caller keeps and lends, for a board where a serial link brings a call for every bit. Each leaves what
 // the call by value leaves; all are `call`, which takes any event.
-use crate::Answer;
+use crate::LentOutcome;
 use controller::Control;
 use controller::Done;
 use controller::transfers::perform;
@@ -22,13 +22,13 @@ ghost use Rattle.events.specs.declared.Event.the-variants as event;
 ghost use Rattle.picture.specs.Picture.{seen};
 ghost use Rattle.repaint.specs.Repaint.{regionWithin};
 ghost use Rattle.calls.specs.State.{state};
-ghost use Rattle.calls.specs.Calls.{refusedAnswer, accepted, called, left};
+ghost use Rattle.calls.specs.Calls.{refusedOutcome, accepted, called, left};
 
 // A refused call: nothing changes, reply 0, count 0.
-fn refused(control: Control, link: Link, number: u8) -> Answer
-    ensures { λ r. ⌜ r ≡ refusedAnswer control link number ⌝ }
+fn refused(control: Control, link: Link, number: u8) -> LentOutcome
+    ensures { λ r. ⌜ r ≡ refusedOutcome control link number ⌝ }
 {
-    Answer {
+    LentOutcome {
         control,
         link,
         number,
@@ -48,7 +48,7 @@ fn show(
     half: &[u8],
     full: &[u8],
     phase: bool,
-) -> Answer
+) -> LentOutcome
     requires { ⌜ InRange (done .control) × regionWithin (done .region) × (length (now frame) ≡ 1024) × (length (now half) ≡ 2048) ⌝ }
     ensures { λ r. ⌜ left r (before text glyph graphic) (now (frame .exit)) ≡ accepted (seen half full phase) (now (frame .entry)) (acted (before text glyph graphic) done) rest ⌝ }
 {
@@ -58,7 +58,7 @@ fn show(
     let count = paint(text, glyph, graphic, look, region, frame, half, full);
     let replied = links::reply(rest, done.reply);
     let link = replied.link;
-    Answer {
+    LentOutcome {
         control,
         link,
         number: 0,
@@ -79,7 +79,7 @@ pub fn call(
     half: &[u8],
     full: &[u8],
     phase: bool,
-) -> Answer
+) -> LentOutcome
     requires { ⌜ InRange control ⌝ }
     ensures { λ r. ⌜ left r (after text glyph graphic) (now (frame .exit)) ≡ called (seen half full phase) (state (before text glyph graphic) control link) (now (frame .entry)) event ⌝ }
     ensures valid { λ r. ⌜ InRange (r .control) ⌝ }
@@ -112,18 +112,19 @@ pub fn transfer(
     half: &[u8],
     full: &[u8],
     phase: bool,
-) -> Answer
+) -> LentOutcome
     requires { ⌜ InRange control ⌝ }
     ensures { λ r. ⌜ left r (after text glyph graphic) (now (frame .exit)) ≡ called (seen half full phase) (state (before text glyph graphic) control link) (now (frame .entry)) (event.Transfer given) ⌝ }
     ensures valid { λ r. ⌜ InRange (r .control) ⌝ }
 {
+    let transfer = Event::Transfer(given);
     call(
         text,
         glyph,
         graphic,
         control,
         link,
-        Event::Transfer(given),
+        transfer,
         frame,
         half,
         full,
@@ -143,18 +144,19 @@ pub fn bit(
     half: &[u8],
     full: &[u8],
     phase: bool,
-) -> Answer
+) -> LentOutcome
     requires { ⌜ InRange control ⌝ }
     ensures { λ r. ⌜ left r (after text glyph graphic) (now (frame .exit)) ≡ called (seen half full phase) (state (before text glyph graphic) control link) (now (frame .entry)) (event.Bit given) ⌝ }
     ensures valid { λ r. ⌜ InRange (r .control) ⌝ }
 {
+    let bit = Event::Bit(given);
     call(
         text,
         glyph,
         graphic,
         control,
         link,
-        Event::Bit(given),
+        bit,
         frame,
         half,
         full,
@@ -173,18 +175,19 @@ pub fn select_low(
     half: &[u8],
     full: &[u8],
     phase: bool,
-) -> Answer
+) -> LentOutcome
     requires { ⌜ InRange control ⌝ }
     ensures { λ r. ⌜ left r (after text glyph graphic) (now (frame .exit)) ≡ called (seen half full phase) (state (before text glyph graphic) control link) (now (frame .entry)) event.SelectLow ⌝ }
     ensures valid { λ r. ⌜ InRange (r .control) ⌝ }
 {
+    let low = Event::SelectLow;
     call(
         text,
         glyph,
         graphic,
         control,
         link,
-        Event::SelectLow,
+        low,
         frame,
         half,
         full,
@@ -204,18 +207,19 @@ pub fn reset(
     half: &[u8],
     full: &[u8],
     phase: bool,
-) -> Answer
+) -> LentOutcome
     requires { ⌜ InRange control ⌝ }
     ensures { λ r. ⌜ left r (after text glyph graphic) (now (frame .exit)) ≡ called (seen half full phase) (state (before text glyph graphic) control link) (now (frame .entry)) (event.Reset pin) ⌝ }
     ensures valid { λ r. ⌜ InRange (r .control) ⌝ }
 {
+    let reset = Event::Reset(pin);
     call(
         text,
         glyph,
         graphic,
         control,
         link,
-        Event::Reset(pin),
+        reset,
         frame,
         half,
         full,

@@ -12,7 +12,7 @@ pub use calls::select_low;
 pub use calls::transfer;
 
 // What a call answers: controls and link as they are next, the refusal number, the reply and the number of bytes named.
-pub struct Answer {
+pub struct LentOutcome {
     pub control: Control,
     pub link: Link,
     pub number: u8,

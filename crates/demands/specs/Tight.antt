@@ -13,7 +13,7 @@ use Rattle.picture.specs.Picture.{Seen}
 use Rattle.picture.specs.Refusals as refusals
 use Rattle.picture.specs.Refusals.{Drawn, drawn}
 use Rattle.events.specs.declared.Event.{Event}
-use Rattle.calls.specs.declared.Answer as lent
+use Rattle.calls.specs.declared.LentOutcome as lent
 use Rattle.events.specs.declared.Made.{Made}
 use Rattle.calls.specs.State.{State, freshState}
 use Rattle.calls.specs.Calls.{Called, called, left}
@@ -86,7 +86,7 @@ sends =
 
 -- what a call on lent memories leaves
 pub record LeftLent : Type 0 where
-  pub answer : lent.Answer
+  pub answer : lent.LentOutcome
   pub memories : Memories
   pub frame : List ℕ
 

@@ -2,7 +2,7 @@
 use Prim.Native.Nat.{ℕ}
 use mathlib.Core.List.{List}
 use Rattle.controller.specs.Memories.{Memories, memories}
-use Rattle.calls.specs.declared.Answer.{Answer}
+use Rattle.calls.specs.declared.LentOutcome.{LentOutcome}
 use Rattle.calls.specs.State.{State, state}
 use Rattle.calls.specs.Calls.{Called}
 use Rattle.panel.specs.declared.Panel.{Panel}
@@ -20,7 +20,7 @@ handed r frame =
     record { state = stateOf (r .panel); number = r .number; reply = r .reply; count = r .count; frame = frame }
 
 -- memories and the answer of a call on them, put together
-abbrev pub together : List ℕ → List ℕ → List ℕ → Answer → Outcome
+abbrev pub together : List ℕ → List ℕ → List ℕ → LentOutcome → Outcome
 together text glyph graphic a =
     record {
       panel = record { text = text; glyph = glyph; graphic = graphic; control = a .control; link = a .link };

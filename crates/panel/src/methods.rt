@@ -1,7 +1,7 @@
 // The calls by value: the panel goes in, and the next one is handed on.
 use crate::Outcome;
 use crate::Panel;
-use calls::Answer;
+use calls::LentOutcome;
 use controller::Control;
 use events::Event;
 use events::Made;
@@ -16,7 +16,7 @@ ghost use Rattle.calls.specs.Calls.{called};
 ghost use Rattle.panel.specs.Handed.{stateOf, memoriesOf, handed, together};
 
 // The memories as a call left them, and its answer, put together.
-fn handed_on(text: [u8; 128], glyph: [u8; 128], graphic: [u8; 2048], answer: Answer) -> Outcome
+fn handed_on(text: [u8; 128], glyph: [u8; 128], graphic: [u8; 2048], answer: LentOutcome) -> Outcome
     ensures { λ r. ⌜ r ≡ together text glyph graphic answer ⌝ }
 {
     let control = answer.control;
