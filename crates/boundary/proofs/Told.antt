@@ -20,7 +20,7 @@ module _ (parallel : Bool) (e : Seen) (capture frame state₀ last₀ : List ℕ
   pub told :
       {p : State} {s : Told} {state last : List ℕ}
       → n ≡ 0
-      → p ≡ freshState parallel
+      → p ≡ freshState (record { parallel = parallel })
       → s ≡ replayedSilently e capture p frame
       → state ≡ stateBytes (s .ending .state)
       → last ≡ lastBytes (s .ending .place) (s .reply) (s .count)

@@ -42,5 +42,5 @@ reported s = report (s .ending .number) (s .ending .frame) (stateBytes (s .endin
 unfoldable pub freshReplay : Bool → Seen → List ℕ → List ℕ → List ℕ → List ℕ → Report
 freshReplay parallel e capture frame state last =
     if eqb (refusalOf (length frame) (length (e .half)) (length (e .full))) 0
-    then reported (replayedSilently e capture (freshState parallel) frame)
+    then reported (replayedSilently e capture (freshState (record { parallel = parallel })) frame)
     else report (refusalOf (length frame) (length (e .half)) (length (e .full))) frame state last

@@ -2,7 +2,7 @@
 // alone as 23 of them. Nothing is asked of a caller.
 mod spelling;
 
-use panel::Made;
+use events::Made;
 use panel::Panel;
 use picture::refusals::refusal;
 use spelling::last_bytes;

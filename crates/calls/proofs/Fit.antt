@@ -4,14 +4,14 @@ use mathlib.Core.List.{List}
 use Prim.Native.Nat.{ℕ}
 use Rattle.base.proofs.Choice.{either}
 use Rattle.table.specs.Table.{said}
+use Rattle.table.specs.Touches.{touches}
 use Rattle.controller.specs.declared.Control.{Control}
 use Rattle.controller.specs.declared.Done.{Done}
 use Rattle.controller.specs.Memories.{Memories}
-use Rattle.controller.specs.State.{InRange}
+use Rattle.controller.specs.State.{InRange, remade}
 use Rattle.controller.specs.Instructions.{obeyed, modes}
 use Rattle.controller.specs.Data.{movedOn}
 use Rattle.controller.specs.Transfers.{Acted, acted, executed, written, readOut, statusRead, carriedOut, performed}
-use Rattle.controller.proofs.Within.{said-within}
 use Rattle.controller.proofs.Kept.{fresh-in-range, obeyed-in-range, movedOn-in-range, dummyRead-in-range}
 use Rattle.events.specs.declared.Transfer.{Transfer}
 use Rattle.events.specs.declared.Transfer.the-variants.{Instruct, Write, Status, Read}
@@ -33,8 +33,8 @@ module _ (m : Memories) (c : Control) (r : InRange c) where
   unfolding carriedOut executed written readOut statusRead
   carriedOut-fit (Instruct byte) =
       let i = said (modes c) byte in
-      let next = obeyed-in-range c i r (said-within (modes c) byte) in
-      record { control = next; region = instruction-within c (obeyed c i) r next i }
+      let next = obeyed-in-range c r byte in
+      record { control = next; region = instruction-within c (obeyed c i) r next (touches i) }
   carriedOut-fit (Write byte) =
       record { control = movedOn-in-range c r; region = write-within c (movedOn c) r (movedOn-in-range c r) }
   carriedOut-fit Status = record { control = r; region = tt }
@@ -46,7 +46,7 @@ module _ (m : Memories) (c : Control) (r : InRange c) where
   unfolding performed
   performed-fit Nothing = record { control = r; region = tt }
   performed-fit (Whole t) = carriedOut-fit t
-  performed-fit (Fresh pin) = record { control = fresh-in-range; region = tt }
+  performed-fit (Fresh pin) = record { control = fresh-in-range (remade c pin); region = tt }
 
   -- in the code's form
   pub done-fit : (d : Deed) (after : Memories) (done : Done) → acted after done ≡ performed m c d → Fit done

@@ -1,7 +1,6 @@
 -- What holds of every call: it hands on a valid state, a refused one changes nothing, the frame keeps its length, and no count passes
 -- that of its bytes. An accepted one by what each deed keeps, a refused one as it was.
 use Prim.Native.Nat.{ℕ, _≤_}
-use mathlib.Core.Bool.{Bool}
 use mathlib.Core.List.{List}
 use mathlib.Core.Path.{_≡_, refl, sym, subst}
 use native.Mathlib.Omega.{arith}
@@ -16,6 +15,7 @@ use Rattle.controller.specs.Transfers.{performed}
 use Rattle.controller.proofs.Kept.{fresh-valid, performed-valid}
 use Rattle.events.specs.declared.Event.{Event}
 use Rattle.events.specs.declared.Event.the-variants.{Reset}
+use Rattle.events.specs.declared.Made.{Made}
 use Rattle.events.specs.declared.Pin.{Pin}
 use Rattle.links.specs.declared.Carried.{Carried}
 use Rattle.links.specs.declared.Taken.{Taken}
@@ -28,9 +28,9 @@ use Rattle.calls.specs.State.{State, freshState, Valid}
 use Rattle.calls.specs.Calls.{Called, refused, accepted, unlessOther, takenOn, Fits, called, left}
 use Rattle.calls.specs.declared.Answer.{Answer}
 
-pub fresh-state-valid : (parallel : Bool) → Valid (freshState parallel)
+pub fresh-state-valid : (made : Made) → Valid (freshState made)
 unfolding freshState
-fresh-state-valid parallel = fresh-valid
+fresh-state-valid made = fresh-valid made
 
 -- what holds of a refused call, and of every accepted one, holds of every call
 pub of-call :
@@ -55,7 +55,7 @@ pub left-valid :
     (e : Seen) (s : State) (f g : List ℕ) (event : Event) (r : Answer) (m : Memories)
     → left r m g ≡ called e s f event
     → Valid s
-    → controls.Valid m (r .control)
+    → controls.AllInRange m (r .control)
 left-valid e s f g event r m h v = subst (λ (k : Called). Valid (k .state)) (sym h) (called-valid e s f event v)
 
 -- a call that is refused leaves what a refusal leaves
@@ -83,10 +83,10 @@ module _ (e : Seen) (s : State) (frame : List ℕ) (event : Event) where
   pub still-fits : Fits e frame → Fits e (called e s frame event .frame)
   still-fits h = rw called-length h
 
--- reset gives fresh, with its pin
+-- reset gives fresh, of what the state keeps and the pin
 pub reset-fresh :
     (e : Seen) (s : State) (frame : List ℕ) (pin : Pin)
     → Fits e frame
-    → called e s frame (Reset pin) .state ≡ freshState (pin .parallel)
+    → called e s frame (Reset pin) .state ≡ freshState (controls.remade (s .control) pin)
 unfolding takenBy performed freshState
 reset-fresh e s frame pin h = rw (admitted e s frame (Reset pin) h)

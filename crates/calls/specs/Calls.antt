@@ -85,6 +85,6 @@ pub record Stands : Type 0 where
   pub frame : List ℕ
 
 -- a sequence of calls, with fonts and phase held: a refused one leaves both as they were
-unfoldable pub after : Seen → State → List ℕ → List Event → Stands
-after e s frame [] = record { state = s; frame = frame }
-after e s frame (event ∷ events) = after e (called e s frame event .state) (called e s frame event .frame) events
+unfoldable pub afterCalls : Seen → State → List ℕ → List Event → Stands
+afterCalls e s frame [] = record { state = s; frame = frame }
+afterCalls e s frame (event ∷ events) = afterCalls e (called e s frame event .state) (called e s frame event .frame) events

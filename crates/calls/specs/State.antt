@@ -1,5 +1,5 @@
 -- Document 01, "Memories and flags": the state of a panel, whole.
-use mathlib.Core.Bool.{Bool}
+use Rattle.events.specs.declared.Made.{Made}
 use Rattle.controller.specs.declared.Control.{Control}
 use Rattle.controller.specs.Memories.{Memories, freshMemories}
 use Rattle.controller.specs.State as controls
@@ -14,10 +14,10 @@ pub record State : Type 0 where
 abbrev pub state : Memories → Control → Link → State
 state m c l = record { memories = m; control = c; link = l }
 
--- fresh (also after reset), with the interface pin: 0 serial, 1 parallel; link idle
-unfoldable pub freshState : Bool → State
-freshState parallel = state freshMemories controls.fresh (idle parallel)
+-- fresh, of what a panel is made with (also after reset, of what the state keeps and the pin); the interface pin: 0 serial, 1 parallel; link idle
+unfoldable pub freshState : Made → State
+freshState made = state freshMemories (controls.freshControl made) (idle (made .parallel))
 
 -- a state handed to a call lies within its ranges
 abbrev pub Valid : State → Type 0
-Valid s = controls.Valid (s .memories) (s .control)
+Valid s = controls.AllInRange (s .memories) (s .control)

@@ -1,10 +1,12 @@
-// A call on memories that the caller keeps and lends, for a board where a serial link brings a call for every bit.
-// It leaves what the call by value leaves.
+// The calls on memories that the caller keeps and lends, for a board where a serial link brings a call for every bit. Each leaves what
+// the call by value leaves; all are `call`, which takes any event.
 use crate::Answer;
 use controller::Control;
 use controller::Done;
 use controller::transfers::perform;
 use events::Event;
+use events::Pin;
+use events::Transfer;
 use links::Link;
 use links::Rest;
 use links::Taken;
@@ -16,6 +18,7 @@ ghost use lib.ListN.{length};
 ghost use Rattle.controller.specs.Memories.{before, after};
 ghost use Rattle.controller.specs.State.{InRange};
 ghost use Rattle.controller.specs.Transfers.{acted};
+ghost use Rattle.events.specs.declared.Event.the-variants as event;
 ghost use Rattle.picture.specs.Picture.{seen};
 ghost use Rattle.repaint.specs.Repaint.{regionWithin};
 ghost use Rattle.calls.specs.State.{state};
@@ -95,4 +98,127 @@ pub fn call(
             show(text, glyph, graphic, done, rest, frame, half, full, phase)
         }
     }
+}
+
+// A transfer of the parallel link.
+pub fn transfer(
+    text: &mut [u8; 128],
+    glyph: &mut [u8; 128],
+    graphic: &mut [u8; 2048],
+    control: Control,
+    link: Link,
+    given: Transfer,
+    frame: &mut [u8],
+    half: &[u8],
+    full: &[u8],
+    phase: bool,
+) -> Answer
+    requires { ⌜ InRange control ⌝ }
+    ensures { λ r. ⌜ left r (after text glyph graphic) (now (frame .exit)) ≡ called (seen half full phase) (state (before text glyph graphic) control link) (now (frame .entry)) (event.Transfer given) ⌝ }
+    ensures valid { λ r. ⌜ InRange (r .control) ⌝ }
+{
+    call(
+        text,
+        glyph,
+        graphic,
+        control,
+        link,
+        Event::Transfer(given),
+        frame,
+        half,
+        full,
+        phase,
+    )
+}
+
+// One bit of the serial link, with chip select high.
+pub fn bit(
+    text: &mut [u8; 128],
+    glyph: &mut [u8; 128],
+    graphic: &mut [u8; 2048],
+    control: Control,
+    link: Link,
+    given: bool,
+    frame: &mut [u8],
+    half: &[u8],
+    full: &[u8],
+    phase: bool,
+) -> Answer
+    requires { ⌜ InRange control ⌝ }
+    ensures { λ r. ⌜ left r (after text glyph graphic) (now (frame .exit)) ≡ called (seen half full phase) (state (before text glyph graphic) control link) (now (frame .entry)) (event.Bit given) ⌝ }
+    ensures valid { λ r. ⌜ InRange (r .control) ⌝ }
+{
+    call(
+        text,
+        glyph,
+        graphic,
+        control,
+        link,
+        Event::Bit(given),
+        frame,
+        half,
+        full,
+        phase,
+    )
+}
+
+// Chip select low on the serial link.
+pub fn select_low(
+    text: &mut [u8; 128],
+    glyph: &mut [u8; 128],
+    graphic: &mut [u8; 2048],
+    control: Control,
+    link: Link,
+    frame: &mut [u8],
+    half: &[u8],
+    full: &[u8],
+    phase: bool,
+) -> Answer
+    requires { ⌜ InRange control ⌝ }
+    ensures { λ r. ⌜ left r (after text glyph graphic) (now (frame .exit)) ≡ called (seen half full phase) (state (before text glyph graphic) control link) (now (frame .entry)) event.SelectLow ⌝ }
+    ensures valid { λ r. ⌜ InRange (r .control) ⌝ }
+{
+    call(
+        text,
+        glyph,
+        graphic,
+        control,
+        link,
+        Event::SelectLow,
+        frame,
+        half,
+        full,
+        phase,
+    )
+}
+
+// Reset with the interface pin, on either link.
+pub fn reset(
+    text: &mut [u8; 128],
+    glyph: &mut [u8; 128],
+    graphic: &mut [u8; 2048],
+    control: Control,
+    link: Link,
+    pin: Pin,
+    frame: &mut [u8],
+    half: &[u8],
+    full: &[u8],
+    phase: bool,
+) -> Answer
+    requires { ⌜ InRange control ⌝ }
+    ensures { λ r. ⌜ left r (after text glyph graphic) (now (frame .exit)) ≡ called (seen half full phase) (state (before text glyph graphic) control link) (now (frame .entry)) (event.Reset pin) ⌝ }
+    ensures valid { λ r. ⌜ InRange (r .control) ⌝ }
+{
+    call(
+        text,
+        glyph,
+        graphic,
+        control,
+        link,
+        Event::Reset(pin),
+        frame,
+        half,
+        full,
+        phase,
+    )
 }

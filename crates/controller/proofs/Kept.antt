@@ -1,7 +1,7 @@
 -- Fresh is valid, and every transfer keeps the ranges and the memories' sizes: place and view are looked at apart.
 use Prim.Native.Nat.{ℕ, _<_}
 use mathlib.Core.Bool.{Bool, true, false, not}
-use mathlib.Core.Path.{_≡_, refl}
+use mathlib.Core.Path.{_≡_, refl, sym, subst}
 use mathlib.Core.List.{List}
 use native.Mathlib.Omega.{arith}
 use lib.ListN.{length, length-set, replicate}
@@ -10,24 +10,28 @@ use Rattle.base.proofs.Choice.{either}
 use Rattle.table.specs.declared.Target.{Target}
 use Rattle.table.specs.declared.Target.the-variants.{Text, Glyph, Graphic}
 use Rattle.table.specs.declared.Instruction.{Instruction}
-use Rattle.table.specs.declared.Instruction.the-variants.{Ignored, Clear, Home, EntryMode, Display, MoveCursor, MoveDisplay, FunctionSet, GlyphAddress, TextAddress, Standby, SetSr, ToggleReverse, Scroll, GraphicAddress}
-use Rattle.table.specs.Table.{said}
+use Rattle.table.specs.declared.Instruction.the-variants.{MoveCursor}
+use Rattle.table.specs.declared.Touch.{Touch}
+use Rattle.table.specs.declared.Touch.the-variants as touch
+use Rattle.table.specs.Table.{Row, 00h, 01h, 02h-03h, 04h-07h, 08h-0Fh, 10h-1Fh, 20h-3Fh, 40h-7Fh, 80h-FFh, rowOf, ifText, table, said}
+use Rattle.table.specs.Touches.{touches}
+use Rattle.base.specs.Bits.{bit}
 use Rattle.events.specs.declared.Transfer.{Transfer}
 use Rattle.events.specs.declared.Transfer.the-variants.{Instruct, Write, Status, Read}
+use Rattle.events.specs.declared.Made.{Made}
 use Rattle.events.specs.declared.Deed.{Deed}
 use Rattle.events.specs.declared.Deed.the-variants as deed
 use Rattle.controller.specs.declared.Waiting.{Waiting}
-use Rattle.controller.specs.declared.Waiting.the-variants.{Nothing, Row}
+use Rattle.controller.specs.declared.Waiting.the-variants as waiting
 use Rattle.controller.specs.declared.Place.{Place}
 use Rattle.controller.specs.declared.View.{View}
 use Rattle.controller.specs.declared.Control.{Control}
 use Rattle.controller.specs.declared.Done.{Done}
 use Rattle.controller.specs.Memories.{Memories, memories, freshMemories}
-use Rattle.controller.specs.State.{fresh, limit, RowInRange, InRange, Valid, Within}
-use Rattle.controller.specs.Instructions.{withWaiting, pointed, stepped, displayMoved, graphicAddressed, reverseToggled, scrolled, obeyed, clears, cleared, modes}
+use Rattle.controller.specs.State.{freshControl, remade, limit, RowInRange, InRange, AllInRange}
+use Rattle.controller.specs.Instructions.{withPlace, withView, withWaiting, pointed, begun, home, stepped, displayMoved, graphicAddressed, reverseToggled, scrolled, obeyed, cleared, modes}
 use Rattle.controller.specs.Data.{stored, nextCounter, moved, shifts, movedOn, dummyRead}
 use Rattle.controller.specs.Transfers.{Acted, executed, written, readOut, statusRead, carriedOut, performed}
-use Rattle.controller.proofs.Within.{said-within}
 
 record PlaceIn (p : Place) : Type 0 where
   counter : p .counter < limit (p .target)
@@ -56,9 +60,9 @@ in-range c p v =
       lines = v .lines;
     }
 
-pub fresh-in-range : InRange fresh
-unfolding fresh
-fresh-in-range =
+pub fresh-in-range : (made : Made) → InRange (freshControl made)
+unfolding freshControl
+fresh-in-range made =
     record {
       counter = omega arith;
       row = omega arith;
@@ -68,42 +72,24 @@ fresh-in-range =
       lines = refl;
     }
 
-pub fresh-valid : Valid freshMemories fresh
+pub fresh-valid : (made : Made) → AllInRange freshMemories (freshControl made)
 unfolding freshMemories
-fresh-valid = record { control = fresh-in-range; text = refl; glyph = refl; graphic = refl }
+fresh-valid made = record { control = fresh-in-range made; text = refl; glyph = refl; graphic = refl }
 
 -- instructions
 
 pointed-in : (t : Target) (k y : ℕ) → k < limit t → y < 64 → PlaceIn (pointed t k y)
 pointed-in t k y h g = record { counter = h; row = g; waiting = tt }
 
-dropped-in : (p : Place) → PlaceIn p → PlaceIn (withWaiting Nothing p)
+dropped-in : (p : Place) → PlaceIn p → PlaceIn (withWaiting waiting.Nothing p)
 dropped-in p r = record { counter = r .counter; row = r .row; waiting = tt }
 
 stepped-64 : (right : Bool) (k : ℕ) → stepped right k < 64
 stepped-64 right k = either (λ (n : ℕ). n < 64) right (omega arith) (omega arith)
 
 addressed-in : (w : Waiting) (p : Place) (a : ℕ) → RowInRange w → PlaceIn p → PlaceIn (graphicAddressed w p a)
-addressed-in Nothing p a h r = record { counter = r .counter; row = r .row; waiting = omega arith }
-addressed-in (Row y) p a h r = pointed-in Graphic _ y (omega arith) h
-
-obeyed-place : (c : Control) (i : Instruction) → PlaceIn (c .place) → Within i → PlaceIn (obeyed c i .place)
-unfolding obeyed
-obeyed-place c Ignored r w = r
-obeyed-place c Clear r w = pointed-in Text 0 _ (omega arith) (r .row)
-obeyed-place c Home r w = pointed-in Text 0 _ (omega arith) (r .row)
-obeyed-place c (EntryMode id s) r w = dropped-in _ r
-obeyed-place c (Display display cursor blink) r w = dropped-in _ r
-obeyed-place c (MoveCursor right) r w = pointed-in Text _ _ (stepped-64 right (c .place .counter)) (r .row)
-obeyed-place c (MoveDisplay right) r w = dropped-in _ r
-obeyed-place c (FunctionSet dl re g) r w = dropped-in _ r
-obeyed-place c (GlyphAddress a) r w = pointed-in Glyph a _ w (r .row)
-obeyed-place c (TextAddress a) r w = pointed-in Text a _ w (r .row)
-obeyed-place c Standby r w = dropped-in _ r
-obeyed-place c (SetSr sr) r w = dropped-in _ r
-obeyed-place c (ToggleReverse line) r w = dropped-in _ r
-obeyed-place c (Scroll rows) r w = dropped-in _ r
-obeyed-place c (GraphicAddress a) r w = addressed-in (c .place .waiting) (c .place) a (r .waiting) r
+addressed-in waiting.Nothing p a h r = record { counter = r .counter; row = r .row; waiting = omega arith }
+addressed-in (waiting.Row y) p a h r = pointed-in Graphic _ y (omega arith) h
 
 shifted-in : (right : Bool) (v : View) → ViewIn v → ViewIn (displayMoved right v)
 shifted-in right v r =
@@ -122,40 +108,75 @@ toggled-in line v r = record { scroll = r .scroll; shift = r .shift; lines = sim
 scrolled-in : (rows : ℕ) (v : View) → rows < 64 → ViewIn v → ViewIn (scrolled rows v)
 scrolled-in rows v h r = record { scroll = h; shift = r .shift; lines = r .lines }
 
-obeyed-view : (c : Control) (i : Instruction) → ViewIn (c .view) → Within i → ViewIn (obeyed c i .view)
-unfolding obeyed
-obeyed-view c Ignored r w = r
-obeyed-view c Clear r w = home-in _ r
-obeyed-view c Home r w = home-in _ r
-obeyed-view c (EntryMode id s) r w = r
-obeyed-view c (Display display cursor blink) r w = r
-obeyed-view c (MoveCursor right) r w = r
-obeyed-view c (MoveDisplay right) r w = shifted-in right (c .view) r
-obeyed-view c (FunctionSet dl re g) r w = r
-obeyed-view c (GlyphAddress a) r w = r
-obeyed-view c (TextAddress a) r w = r
-obeyed-view c Standby r w = r
-obeyed-view c (SetSr sr) r w = r
-obeyed-view c (ToggleReverse line) r w = toggled-in line (c .view) r
-obeyed-view c (Scroll rows) r w = scrolled-in rows (c .view) w r
-obeyed-view c (GraphicAddress a) r w = r
+-- the table's entries, row by row; what an entry changes of place and view, it changes within their ranges
+module _ (c : Control) (r : InRange c) where
+  Keeps : Instruction → Type 0
+  Keeps i = InRange (obeyed c i)
 
-pub obeyed-in-range : (c : Control) (i : Instruction) → InRange c → Within i → InRange (obeyed c i)
-obeyed-in-range c i r w =
-    in-range (obeyed c i) (obeyed-place c i (place-in c r) w) (obeyed-view c i (view-in c r) w)
+  -- an entry that leaves place and view, but for a waiting row
+  drops : {d : Control} → d .place ≡ withWaiting waiting.Nothing (c .place) → d .view ≡ c .view → InRange d
+  drops {d} p v = in-range d (subst PlaceIn (sym p) (dropped-in _ (place-in c r))) (subst ViewIn (sym v) (view-in c r))
 
-cleared-length : (i : Instruction) (text : List ℕ) → length text ≡ 128 → length (cleared i text) ≡ 128
-cleared-length i text h = either (λ (l : List ℕ). length l ≡ 128) (clears i) refl h
+  points : (t : Target) (k : ℕ) → k < limit t → InRange (withPlace (pointed t k (c .place .row)) (begun c))
+  points t k h = in-range _ (pointed-in t k _ h (r .row)) (view-in c r)
 
-pub executed-valid :
-    (m : Memories) (c : Control) (b : ℕ)
-    → Valid m c
-    → Valid (memories (executed (m .text) c b .text) (m .glyph) (m .graphic)) (executed (m .text) c b .done .control)
+  looks : (v : View) → ViewIn v → InRange (withView v (begun c))
+  looks v h = in-range _ (dropped-in _ (place-in c r)) h
+
+  homes : InRange (home (begun c))
+  homes = in-range _ (pointed-in Text 0 _ (omega arith) (r .row)) (home-in _ (view-in c r))
+
+  moves : (t : Target) (right : Bool) → Keeps (ifText t (MoveCursor right))
+  unfolding Keeps obeyed
+  moves Text right = points Text _ (stepped-64 right (c .place .counter))
+  moves Glyph right = r
+  moves Graphic right = r
+
+  basic-kept : (row : Row) (b : ℕ) → Keeps (table (modes c) row b .basic)
+  unfolding Keeps obeyed
+  basic-kept 00h b = r
+  basic-kept 01h b = homes
+  basic-kept 02h-03h b = homes
+  basic-kept 04h-07h b = drops refl refl
+  basic-kept 08h-0Fh b = drops refl refl
+  basic-kept 10h-1Fh b =
+      either Keeps (bit 3 b) (looks _ (shifted-in (bit 2 b) (c .view) (view-in c r))) (moves (c .place .target) (bit 2 b))
+  basic-kept 20h-3Fh b = drops refl refl
+  basic-kept 40h-7Fh b = either Keeps (c .sr) r (points Glyph _ (omega arith))
+  basic-kept 80h-FFh b = points Text _ (omega arith)
+
+  extended-kept : (row : Row) (b : ℕ) → Keeps (table (modes c) row b .extended)
+  unfolding Keeps obeyed
+  extended-kept 00h b = r
+  extended-kept 01h b = drops refl refl
+  extended-kept 02h-03h b = drops refl refl
+  extended-kept 04h-07h b = looks _ (toggled-in b (c .view) (view-in c r))
+  extended-kept 08h-0Fh b = r
+  extended-kept 10h-1Fh b = r
+  extended-kept 20h-3Fh b = drops refl refl
+  extended-kept 40h-7Fh b = either Keeps (c .sr) (looks _ (scrolled-in _ (c .view) (omega arith) (view-in c r))) r
+  extended-kept 80h-FFh b = in-range _ (addressed-in (c .place .waiting) (c .place) _ (r .waiting) (place-in c r)) (view-in c r)
+
+  pub obeyed-in-range : (b : ℕ) → InRange (obeyed c (said (modes c) b))
+  unfolding said Keeps
+  obeyed-in-range b = either Keeps (c .function .re) (extended-kept (rowOf b) b) (basic-kept (rowOf b) b)
+
+cleared-length : (t : Touch) (text : List ℕ) → length text ≡ 128 → length (cleared t text) ≡ 128
+cleared-length touch.Nothing text h = h
+cleared-length touch.Counter text h = h
+cleared-length touch.All text h = h
+cleared-length touch.AllAndText text h = refl
+
+-- what a deed leaves is valid
+abbrev pub ActedValid : Acted → Type 0
+ActedValid a = AllInRange (a .memories) (a .done .control)
+
+executed-valid : (m : Memories) (c : Control) (b : ℕ) → AllInRange m c → ActedValid (executed m c b)
 unfolding executed
 executed-valid m c b v =
     record {
-      control = obeyed-in-range c (said (modes c) b) (v .control) (said-within (modes c) b);
-      text = cleared-length (said (modes c) b) (m .text) (v .text);
+      control = obeyed-in-range c (v .control) b;
+      text = cleared-length (touches (said (modes c) b)) (m .text) (v .text);
       glyph = v .glyph;
       graphic = v .graphic;
     }
@@ -197,7 +218,7 @@ stored-sizes Glyph p b m e f g = (e, simp length-set f, g)
 stored-sizes Graphic p b m e f g = (e, f, simp length-set g)
 
 pub written-valid :
-    (m : Memories) (c : Control) (b : ℕ) → Valid m c → Valid (written m c b .memories) (written m c b .done .control)
+    (m : Memories) (c : Control) (b : ℕ) → AllInRange m c → ActedValid (written m c b)
 unfolding written
 written-valid m c b v =
     let sizes = stored-sizes (c .place .target) (c .place) b m (v .text) (v .glyph) (v .graphic) in
@@ -208,19 +229,15 @@ unfolding readOut
 readOut-in-range m c r =
     either (λ (d : Done). InRange (d .control)) (c .place .dummy) (dummyRead-in-range c r) (movedOn-in-range c r)
 
-pub readOut-valid : (m : Memories) (c : Control) → Valid m c → Valid m (readOut m c .control)
+pub readOut-valid : (m : Memories) (c : Control) → AllInRange m c → AllInRange m (readOut m c .control)
 readOut-valid m c v =
     record { control = readOut-in-range m c (v .control); text = v .text; glyph = v .glyph; graphic = v .graphic }
 
-pub statusRead-valid : (m : Memories) (c : Control) → Valid m c → Valid m (statusRead c .control)
+pub statusRead-valid : (m : Memories) (c : Control) → AllInRange m c → AllInRange m (statusRead c .control)
 unfolding statusRead
 statusRead-valid m c v = v
 
--- what a deed leaves is valid
-abbrev pub ActedValid : Acted → Type 0
-ActedValid a = Valid (a .memories) (a .done .control)
-
-module _ (m : Memories) (c : Control) (v : Valid m c) where
+module _ (m : Memories) (c : Control) (v : AllInRange m c) where
   carriedOut-valid : (t : Transfer) → ActedValid (carriedOut m c t)
   unfolding carriedOut
   carriedOut-valid (Instruct byte) = executed-valid m c byte v
@@ -232,4 +249,4 @@ module _ (m : Memories) (c : Control) (v : Valid m c) where
   unfolding performed
   performed-valid deed.Nothing = v
   performed-valid (deed.Whole t) = carriedOut-valid t
-  performed-valid (deed.Fresh pin) = fresh-valid
+  performed-valid (deed.Fresh pin) = fresh-valid (remade c pin)

@@ -4,10 +4,12 @@ use mathlib.Core.Bool.{Bool, true, false, not}
 use mathlib.Core.List.{List}
 use lib.ListN.{getD, set, replicate}
 use Rattle.base.specs.Choice.{if_then_else_}
-use Rattle.base.specs.Bits.{bits5-0, bits3-0}
+use Rattle.base.specs.Bits.{bits5-0, bits3-0, bits1-0}
 use Rattle.table.specs.declared.Target.{Target}
 use Rattle.table.specs.declared.Target.the-variants.{Text, Glyph, Graphic}
 use Rattle.table.specs.declared.Modes.{Modes}
+use Rattle.table.specs.declared.Touch.{Touch}
+use Rattle.table.specs.declared.Touch.the-variants as touch
 use Rattle.table.specs.declared.Instruction.{Instruction}
 use Rattle.table.specs.declared.Instruction.the-variants.{Ignored, Clear, Home, EntryMode, Display, MoveCursor, MoveDisplay, FunctionSet, GlyphAddress, TextAddress, Standby, SetSr, ToggleReverse, Scroll, GraphicAddress}
 use Rattle.controller.specs.declared.Waiting.{Waiting}
@@ -74,8 +76,8 @@ home c =
     (withPlace (pointed Text 0 (c .place .row)) c)
 
 -- function set: bit 4 DL, bit 2 RE, bit 1 G (RE = 1 only); if bit 2 differs from RE, only RE changes
-abbrev pub functionSet : Function → Bool → Bool → Bool → Function
-functionSet f dl re g = by (f .re) re
+abbrev pub setFunction : Function → Bool → Bool → Bool → Function
+setFunction f dl re g = by (f .re) re
   where
     by : Bool → Bool → Function
     by false false = record { dl = dl; re = false; g = f .g }
@@ -83,10 +85,10 @@ functionSet f dl re g = by (f .re) re
     by false true = record { dl = f .dl; re = true; g = f .g }
     by true false = record { dl = f .dl; re = false; g = f .g }
 
--- the reverse of a line is toggled
+-- the reverse of line bits 1..0 is toggled
 abbrev pub reverseToggled : ℕ → View → View
-reverseToggled line v =
-    record { scroll = v .scroll; shift = v .shift; reversed = set (v .reversed) line (not (getD (v .reversed) line false)) }
+reverseToggled b v =
+    record { scroll = v .scroll; shift = v .shift; reversed = set (v .reversed) (bits1-0 b) (not (getD (v .reversed) (bits1-0 b) false)) }
 
 abbrev pub scrolled : ℕ → View → View
 scrolled rows v = record { scroll = rows; shift = v .shift; reversed = v .reversed }
@@ -100,35 +102,21 @@ obeyed c (EntryMode id s) = withEntry (record { id = id; s = s }) (begun c)
 obeyed c (Display display cursor blink) = withShown (record { display = display; cursor = cursor; blink = blink }) (begun c)
 obeyed c (MoveCursor right) = withPlace (pointed Text (stepped right (c .place .counter)) (c .place .row)) (begun c)
 obeyed c (MoveDisplay right) = withView (displayMoved right (c .view)) (begun c)
-obeyed c (FunctionSet dl re g) = withFunction (functionSet (c .function) dl re g) (begun c)
+obeyed c (FunctionSet dl re g) = withFunction (setFunction (c .function) dl re g) (begun c)
 obeyed c (GlyphAddress a) = withPlace (pointed Glyph a (c .place .row)) (begun c)
 obeyed c (TextAddress a) = withPlace (pointed Text a (c .place .row)) (begun c)
 obeyed c Standby = withStandby true (begun c)
 obeyed c (SetSr sr) = withSr sr (begun c)
-obeyed c (ToggleReverse line) = withView (reverseToggled line (c .view)) (begun c)
+obeyed c (ToggleReverse b) = withView (reverseToggled b (c .view)) (begun c)
 obeyed c (Scroll rows) = withView (scrolled rows (c .view)) (begun c)
 obeyed c (GraphicAddress a) = withPlace (graphicAddressed (c .place .waiting) (c .place) a) (begun c)
 
 -- clear: text bytes 20h
-abbrev pub clears : Instruction → Bool
-clears Ignored = false
-clears Clear = true
-clears Home = false
-clears (EntryMode id s) = false
-clears (Display display cursor blink) = false
-clears (MoveCursor right) = false
-clears (MoveDisplay right) = false
-clears (FunctionSet dl re g) = false
-clears (GlyphAddress a) = false
-clears (TextAddress a) = false
-clears Standby = false
-clears (SetSr sr) = false
-clears (ToggleReverse line) = false
-clears (Scroll rows) = false
-clears (GraphicAddress a) = false
-
-abbrev pub cleared : Instruction → List ℕ → List ℕ
-cleared i text = if clears i then replicate 128 0x20 else text
+abbrev pub cleared : Touch → List ℕ → List ℕ
+cleared touch.Nothing text = text
+cleared touch.Counter text = text
+cleared touch.All text = text
+cleared touch.AllAndText text = replicate 128 0x20
 
 -- what the table asks for beside the byte
 abbrev pub modes : Control → Modes

@@ -1,13 +1,13 @@
 -- Document 01, "Bytes named for repaint": which region each transfer names, and which bytes a region has.
 use Prim.Native.Nat.{ℕ, _+_, _*_, _/_, _%_}
-use mathlib.Core.Bool.{Bool, true, false, _&&_, _||_}
+use mathlib.Core.Bool.{Bool, true, false, not, _&&_, _||_}
 use mathlib.Core.List.{List}
 use lib.Dec.{eqb}
 use Rattle.base.specs.Choice.{if_then_else_}
 use Rattle.table.specs.declared.Target.{Target}
 use Rattle.table.specs.declared.Target.the-variants.{Text, Glyph, Graphic}
-use Rattle.table.specs.declared.Instruction.{Instruction}
-use Rattle.table.specs.declared.Instruction.the-variants.{Ignored, Clear, Home, EntryMode, Display, MoveCursor, MoveDisplay, FunctionSet, GlyphAddress, TextAddress, Standby, SetSr, ToggleReverse, Scroll, GraphicAddress}
+use Rattle.table.specs.declared.Touch.{Touch}
+use Rattle.table.specs.declared.Touch.the-variants as touch
 use Rattle.controller.specs.declared.Waiting.{Waiting}
 use Rattle.controller.specs.declared.Waiting.the-variants.{Row}
 use Rattle.controller.specs.declared.Place.{Place}
@@ -37,51 +37,21 @@ counterCell p = if isText (p .target) then Word (p .counter) else Nowhere
 abbrev pub bothCells : Place → Place → Region
 bothCells before after = Cells (counterCell before) (counterCell after)
 
--- every instruction ends standby, except ignored codes and 01h with RE = 1
-abbrev pub endsStandby : Instruction → Bool
-endsStandby Ignored = false
-endsStandby Clear = true
-endsStandby Home = true
-endsStandby (EntryMode id s) = true
-endsStandby (Display display cursor blink) = true
-endsStandby (MoveCursor right) = true
-endsStandby (MoveDisplay right) = true
-endsStandby (FunctionSet dl re g) = true
-endsStandby (GlyphAddress a) = true
-endsStandby (TextAddress a) = true
-endsStandby Standby = false
-endsStandby (SetSr sr) = true
-endsStandby (ToggleReverse line) = true
-endsStandby (Scroll rows) = true
-endsStandby (GraphicAddress a) = true
+-- address sets and cursor moves: both cells; a row alone, which waits then: none
+abbrev pub addressNames : Waiting → Place → Place → Region
+addressNames Waiting.Nothing before after = bothCells before after
+addressNames (Row y) before after = Nothing
 
--- a row alone: none; its column is an address set
-abbrev pub graphicAddressNames : Waiting → Place → Place → Region
-graphicAddressNames Waiting.Nothing before after = Nothing
-graphicAddressNames (Row y) before after = bothCells before after
+abbrev pub touchNames : Touch → Place → Place → Region
+touchNames touch.Nothing before after = Nothing
+touchNames touch.Counter before after = addressNames (after .waiting) before after
+touchNames touch.All before after = Whole
+touchNames touch.AllAndText before after = Whole
 
--- address sets and cursor moves: the counter's cell before and after; every other executed instruction: all
-abbrev pub listed : Place → Place → Instruction → Region
-listed before after Ignored = Nothing
-listed before after Clear = Whole
-listed before after Home = Whole
-listed before after (EntryMode id s) = Whole
-listed before after (Display display cursor blink) = Whole
-listed before after (MoveCursor right) = bothCells before after
-listed before after (MoveDisplay right) = Whole
-listed before after (FunctionSet dl re g) = Whole
-listed before after (GlyphAddress a) = bothCells before after
-listed before after (TextAddress a) = bothCells before after
-listed before after Standby = Whole
-listed before after (SetSr sr) = Whole
-listed before after (ToggleReverse line) = Whole
-listed before after (Scroll rows) = Whole
-listed before after (GraphicAddress a) = graphicAddressNames (before .waiting) before after
-
--- an instruction, from the controls before and after it: all 1,024 where it ends standby
-unfoldable pub instructionNames : Control → Control → Instruction → Region
-instructionNames before after i =
-    if before .standby && endsStandby i then Whole else listed (before .place) (after .place) i
+-- an instruction, from the controls before and after it: all 1,024 where it ends standby; else by what it touches
+unfoldable pub instructionNames : Control → Control → Touch → Region
+instructionNames before after t =
+    if before .standby && not (after .standby) then Whole else touchNames t (before .place) (after .place)
 
 -- the word's cell and, if the counter steps, the new word's cell
 abbrev pub textNames : Place → Place → Region

@@ -4,10 +4,10 @@ use Prim.{Unit}
 use mathlib.Core.Bool.{true, false}
 use mathlib.Core.Path.{_≡_}
 use lib.ListN.{length, replicate}
+use Rattle.events.specs.declared.Made.{Made}
+use Rattle.events.specs.declared.Pin.{Pin}
 use Rattle.table.specs.declared.Target.{Target}
 use Rattle.table.specs.declared.Target.the-variants.{Text, Glyph, Graphic}
-use Rattle.table.specs.declared.Instruction.{Instruction}
-use Rattle.table.specs.declared.Instruction.the-variants.{Ignored, Clear, Home, EntryMode, Display, MoveCursor, MoveDisplay, FunctionSet, GlyphAddress, TextAddress, Standby, SetSr, ToggleReverse, Scroll, GraphicAddress}
 use Rattle.controller.specs.declared.Waiting.{Waiting}
 use Rattle.controller.specs.declared.Waiting.the-variants.{Nothing, Row}
 use Rattle.controller.specs.declared.Place.{Place}
@@ -24,8 +24,8 @@ abbrev pub freshView : View
 freshView = record { scroll = 0; shift = 0; reversed = replicate 4 false }
 
 -- I/D 1, S 0; display, cursor, blink, RE, SR, G 0; DL 1; no standby
-unfoldable pub fresh : Control
-fresh =
+unfoldable pub freshControl : Made → Control
+freshControl made =
     record {
       place = freshPlace;
       entry = record { id = true; s = false };
@@ -35,6 +35,10 @@ fresh =
       view = freshView;
       standby = false;
     }
+
+-- reset takes the interface pin: what the state keeps, and the pin, are what the next state is made with
+abbrev pub remade : Control → Pin → Made
+remade c pin = record { parallel = pin .parallel }
 
 -- the counter has 6 bits for text and glyph memory, 4 for graphic memory
 abbrev pub limit : Target → ℕ
@@ -56,26 +60,8 @@ pub record InRange (c : Control) : Type 0 where
   pub lines : length (c .view .reversed) ≡ 4
 
 -- a state that may be handed to a call: its controls lie within their ranges, and its memories have their sizes
-pub record Valid (m : Memories) (c : Control) : Type 0 where
+pub record AllInRange (m : Memories) (c : Control) : Type 0 where
   pub control : InRange c
   pub text : length (m .text) ≡ 128
   pub glyph : length (m .glyph) ≡ 128
   pub graphic : length (m .graphic) ≡ 2048
-
--- the values that an instruction carries are those that its bits can make
-abbrev pub Within : Instruction → Type 0
-Within Ignored = Unit {0}
-Within Clear = Unit {0}
-Within Home = Unit {0}
-Within (EntryMode id s) = Unit {0}
-Within (Display display cursor blink) = Unit {0}
-Within (MoveCursor right) = Unit {0}
-Within (MoveDisplay right) = Unit {0}
-Within (FunctionSet dl re g) = Unit {0}
-Within (GlyphAddress a) = a < 64
-Within (TextAddress a) = a < 64
-Within Standby = Unit {0}
-Within (SetSr sr) = Unit {0}
-Within (ToggleReverse line) = line < 4
-Within (Scroll rows) = rows < 64
-Within (GraphicAddress a) = a < 64

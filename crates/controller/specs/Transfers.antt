@@ -1,18 +1,19 @@
 -- Document 01, "Instructions": each transfer whole, with what it leaves in the memories and the controls, its reply, and what it names.
 use Prim.Native.Nat.{ℕ}
-use mathlib.Core.List.{List}
 use Rattle.base.specs.Choice.{if_then_else_}
 use Rattle.table.specs.Table.{said}
+use Rattle.table.specs.Touches.{touches}
 use Rattle.table.specs.declared.Instruction.{Instruction}
 use Rattle.events.specs.declared.Transfer.{Transfer}
 use Rattle.events.specs.declared.Transfer.the-variants.{Instruct, Write, Status, Read}
+use Rattle.events.specs.declared.Made.{Made}
 use Rattle.events.specs.declared.Deed.{Deed}
 use Rattle.events.specs.declared.Deed.the-variants as deed
 use Rattle.controller.specs.declared.Control.{Control}
 use Rattle.controller.specs.declared.Region.the-variants.{Nothing, Whole}
 use Rattle.controller.specs.declared.Done.{Done}
 use Rattle.controller.specs.Memories.{Memories, memories, freshMemories}
-use Rattle.controller.specs.State.{fresh}
+use Rattle.controller.specs.State.{freshControl, remade}
 use Rattle.controller.specs.Instructions.{obeyed, cleared, modes}
 use Rattle.controller.specs.Data.{stored, found, movedOn, dummyRead}
 use Rattle.controller.specs.Named.{instructionNames, writeNames, readNames}
@@ -25,21 +26,15 @@ pub record Acted : Type 0 where
 abbrev pub acted : Memories → Done → Acted
 acted m d = record { memories = m; done = d }
 
--- what an instruction leaves: of the memories it can change the text alone
-pub record Instructed : Type 0 where
-  pub text : List ℕ
-  pub done : Done
+-- an entry of the table is obeyed: clear fills the text, no other changes a memory; and the entry names its region
+abbrev pub obeyedActed : Memories → Control → Instruction → Acted
+obeyedActed m c i =
+    acted (memories (cleared (touches i) (m .text)) (m .glyph) (m .graphic))
+    (record { control = obeyed c i; reply = 0; region = instructionNames c (obeyed c i) (touches i) })
 
-abbrev pub instructed : List ℕ → Done → Instructed
-instructed t d = record { text = t; done = d }
-
--- the table's entry for a byte is obeyed, and names its region
-abbrev pub obeyedDone : Control → Instruction → Done
-obeyedDone c i = record { control = obeyed c i; reply = 0; region = instructionNames c (obeyed c i) i }
-
--- an instruction write
-unfoldable pub executed : List ℕ → Control → ℕ → Instructed
-executed text c b = instructed (cleared (said (modes c) b) text) (obeyedDone c (said (modes c) b))
+-- an instruction write: the table's entry for the byte
+unfoldable pub executed : Memories → Control → ℕ → Acted
+executed m c b = obeyedActed m c (said (modes c) b)
 
 -- a data write: store into the next half; after the low half, step
 unfoldable pub written : Memories → Control → ℕ → Acted
@@ -57,23 +52,19 @@ readOut m c =
 unfoldable pub statusRead : Control → Done
 statusRead c = record { control = c; reply = c .place .counter; region = Nothing }
 
--- an instruction can change the text alone
-abbrev pub withText : Memories → Instructed → Acted
-withText m i = acted (memories (i .text) (m .glyph) (m .graphic)) (i .done)
-
 -- a whole transfer
 unfoldable pub carriedOut : Memories → Control → Transfer → Acted
-carriedOut m c (Instruct byte) = withText m (executed (m .text) c byte)
+carriedOut m c (Instruct byte) = executed m c byte
 carriedOut m c (Write byte) = written m c byte
 carriedOut m c Status = acted m (statusRead c)
 carriedOut m c Read = acted m (readOut m c)
 
 -- everything as fresh, and every byte is named
-abbrev pub restarted : Acted
-restarted = acted freshMemories (record { control = fresh; reply = 0; region = Whole })
+abbrev pub restarted : Made → Acted
+restarted made = acted freshMemories (record { control = freshControl made; reply = 0; region = Whole })
 
 -- what of an event reaches the controller: nothing, and the state stays; a whole transfer; or reset
 unfoldable pub performed : Memories → Control → Deed → Acted
 performed m c deed.Nothing = acted m (record { control = c; reply = 0; region = Nothing })
 performed m c (deed.Whole t) = carriedOut m c t
-performed m c (deed.Fresh pin) = restarted
+performed m c (deed.Fresh pin) = restarted (remade c pin)

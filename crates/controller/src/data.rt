@@ -13,7 +13,7 @@ ghost use Rattle.controller.specs.State.{InRange, limit};
 ghost use Rattle.controller.specs.Data.{stored, found, nextCounter, counterAfter, moved, completes, shifts, movedOn, dummyRead};
 
 // The byte goes into the next half of the target's memory.
-pub fn store(
+pub(crate) fn store(
     text: &mut [u8; 128],
     glyph: &mut [u8; 128],
     graphic: &mut [u8; 2048],
@@ -42,7 +42,12 @@ pub fn store(
 }
 
 // The next half of the target's memory.
-pub fn find(text: &[u8; 128], glyph: &[u8; 128], graphic: &[u8; 2048], control: Control) -> u8
+pub(crate) fn find(
+    text: &[u8; 128],
+    glyph: &[u8; 128],
+    graphic: &[u8; 2048],
+    control: Control,
+) -> u8
     requires { ⌜ InRange control ⌝ }
     ensures { λ r. ⌜ r ≡ found (control .place .target) (control .place) (before text glyph graphic) ⌝ }
 {
@@ -108,7 +113,7 @@ impl Place {
     }
 
     // Whether a text word completes with this half.
-    pub fn completes(self) -> bool
+    pub(crate) fn completes(self) -> bool
         ensures { λ r. ⌜ r ≡ completes self ⌝ }
     {
         let target = self.target;
@@ -122,7 +127,7 @@ impl Place {
 
 impl Control {
     // Whether a data transfer shifts the display.
-    pub fn shifts(self) -> bool
+    pub(crate) fn shifts(self) -> bool
         ensures { λ r. ⌜ r ≡ shifts self ⌝ }
     {
         let place = self.place;
@@ -133,7 +138,7 @@ impl Control {
     }
 
     // The controls after a half has been written or read.
-    pub fn moved_on(self) -> Control
+    pub(crate) fn moved_on(self) -> Control
         requires { ⌜ InRange self ⌝ }
         ensures { λ r. ⌜ r ≡ movedOn self ⌝ }
     {
@@ -150,7 +155,7 @@ impl Control {
     }
 
     // The controls after a dummy read: the mark is cleared, and nothing moves.
-    pub fn dummy_read(self) -> Control
+    pub(crate) fn dummy_read(self) -> Control
         ensures { λ r. ⌜ r ≡ dummyRead self ⌝ }
     {
         let place = self.place;

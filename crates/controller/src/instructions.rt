@@ -6,16 +6,18 @@ use crate::Place;
 use crate::Shown;
 use crate::View;
 use crate::Waiting;
+use events::Made;
+use events::Pin;
 use table::Instruction;
 use table::Modes;
 use table::Target;
 ghost use mathlib.Core.Path.{_≡_};
 ghost use Prim.Native.Nat.{_<_};
-ghost use Rattle.controller.specs.State.{InRange, Within, fresh};
-ghost use Rattle.controller.specs.Instructions.{withPlace, withEntry, withShown, withFunction, withSr, withView, withStandby, pointed, withWaiting, begun, graphicAddressed, stepped, displayMoved, home, functionSet, reverseToggled, scrolled, obeyed, clears, modes};
+ghost use Rattle.controller.specs.State.{InRange, freshControl, remade};
+ghost use Rattle.controller.specs.Instructions.{withPlace, withEntry, withShown, withFunction, withSr, withView, withStandby, pointed, withWaiting, begun, graphicAddressed, stepped, displayMoved, home, setFunction, reverseToggled, scrolled, obeyed, modes};
 
 // The counter one to the right or to the left, modulo 64.
-pub fn stepped(right: bool, counter: u8) -> u8
+pub(crate) fn stepped(right: bool, counter: u8) -> u8
     requires { ⌜ counter < 64 ⌝ }
     ensures { λ r. ⌜ r ≡ stepped right counter ⌝ }
 {
@@ -27,7 +29,7 @@ pub fn stepped(right: bool, counter: u8) -> u8
 
 impl Place {
     // An address just set: the high half next, and a dummy read due.
-    pub fn pointed(target: Target, counter: u8, row: u8) -> Place
+    pub(crate) fn pointed(target: Target, counter: u8, row: u8) -> Place
         ensures { λ r. ⌜ r ≡ pointed target counter row ⌝ }
     {
         Place {
@@ -41,7 +43,7 @@ impl Place {
     }
 
     // The place with another waiting row, or none.
-    pub fn with_waiting(self, waiting: Waiting) -> Place
+    pub(crate) fn with_waiting(self, waiting: Waiting) -> Place
         ensures { λ r. ⌜ r ≡ withWaiting waiting self ⌝ }
     {
         let target = self.target;
@@ -69,7 +71,7 @@ impl Place {
 
 impl View {
     // Display left adds 1 to the shift modulo 16, right subtracts 1.
-    pub fn display_moved(self, right: bool) -> View
+    pub(crate) fn display_moved(self, right: bool) -> View
         requires { ⌜ self .shift < 16 ⌝ }
         ensures { λ r. ⌜ r ≡ displayMoved right self ⌝ }
     {
@@ -82,12 +84,12 @@ impl View {
         next
     }
 
-    fn reverse_toggled(self, line: u8) -> View
-        requires { ⌜ line < 4 ⌝ }
-        ensures { λ r. ⌜ r ≡ reverseToggled line self ⌝ }
+    // The reverse of line bits 1..0 is toggled.
+    fn reverse_toggled(self, byte: u8) -> View
+        ensures { λ r. ⌜ r ≡ reverseToggled byte self ⌝ }
     {
         let mut next = self;
-        let at = line as usize;
+        let at = (byte % 4) as usize;
         next.reversed[at] = !next.reversed[at];
         next
     }
@@ -104,7 +106,7 @@ impl View {
 impl Function {
     // If RE is to change, only RE changes; G changes in the extended set alone.
     fn set(self, dl: bool, re: bool, g: bool) -> Function
-        ensures { λ r. ⌜ r ≡ functionSet self dl re g ⌝ }
+        ensures { λ r. ⌜ r ≡ setFunction self dl re g ⌝ }
     {
         let mut next = self;
         if self.re {
@@ -124,8 +126,9 @@ impl Function {
 }
 
 impl Control {
-    pub fn fresh() -> Control
-        ensures { λ r. ⌜ r ≡ fresh ⌝ }
+    // The controls of a panel that has just been made. So far nothing that it is made with shows in them.
+    pub fn fresh(made: Made) -> Control
+        ensures { λ r. ⌜ r ≡ freshControl made ⌝ }
     {
         Control {
             place: Place {
@@ -157,8 +160,17 @@ impl Control {
         }
     }
 
+    // What reset makes the next state with: what this one keeps, and the pin.
+    pub(crate) fn remade(self, pin: Pin) -> Made
+        ensures { λ r. ⌜ r ≡ remade self pin ⌝ }
+    {
+        Made {
+            parallel: pin.parallel,
+        }
+    }
+
     // What the table asks for beside the byte.
-    pub fn modes(self) -> Modes
+    pub(crate) fn modes(self) -> Modes
         ensures { λ r. ⌜ r ≡ modes self ⌝ }
     {
         let place = self.place;
@@ -170,7 +182,7 @@ impl Control {
         }
     }
 
-    pub fn with_place(self, place: Place) -> Control
+    pub(crate) fn with_place(self, place: Place) -> Control
         ensures { λ r. ⌜ r ≡ withPlace place self ⌝ }
     {
         let mut next = self;
@@ -178,7 +190,7 @@ impl Control {
         next
     }
 
-    pub fn with_view(self, view: View) -> Control
+    pub(crate) fn with_view(self, view: View) -> Control
         ensures { λ r. ⌜ r ≡ withView view self ⌝ }
     {
         let mut next = self;
@@ -250,9 +262,8 @@ impl Control {
     }
 
     // What an entry of the table makes of the controls.
-    pub fn obey(self, instruction: Instruction) -> Control
+    pub(crate) fn obey(self, instruction: Instruction) -> Control
         requires { ⌜ InRange self ⌝ }
-        requires { ⌜ Within instruction ⌝ }
         ensures { λ r. ⌜ r ≡ obeyed self instruction ⌝ }
     {
         let place = self.place;
@@ -289,38 +300,11 @@ impl Control {
             }
             Instruction::Standby => next.with_standby(true),
             Instruction::SetSr(sr) => next.with_sr(sr),
-            Instruction::ToggleReverse(line) => next.with_view(view.reverse_toggled(line)),
+            Instruction::ToggleReverse(byte) => next.with_view(view.reverse_toggled(byte)),
             Instruction::Scroll(rows) => next.with_view(view.scrolled(rows)),
             Instruction::GraphicAddress(address) => {
                 next.with_place(place.graphic_addressed(address))
             }
         }
-    }
-}
-
-// Whether an instruction sets all text bytes to 20h. Each entry has its arm, so that a new one has to be decided here.
-pub fn clears(instruction: Instruction) -> bool
-    ensures { λ r. ⌜ r ≡ clears instruction ⌝ }
-{
-    match instruction {
-        Instruction::Ignored => false,
-        Instruction::Clear => true,
-        Instruction::Home => false,
-        Instruction::EntryMode { id: _, s: _ } => false,
-        Instruction::Display {
-            display: _,
-            cursor: _,
-            blink: _,
-        } => false,
-        Instruction::MoveCursor { right: _ } => false,
-        Instruction::MoveDisplay { right: _ } => false,
-        Instruction::FunctionSet { dl: _, re: _, g: _ } => false,
-        Instruction::GlyphAddress(_) => false,
-        Instruction::TextAddress(_) => false,
-        Instruction::Standby => false,
-        Instruction::SetSr(_) => false,
-        Instruction::ToggleReverse(_) => false,
-        Instruction::Scroll(_) => false,
-        Instruction::GraphicAddress(_) => false,
     }
 }

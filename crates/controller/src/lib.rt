@@ -2,8 +2,8 @@
 // The three memories are arrays that the caller lends; everything else is `Control`, which goes in and comes back by value.
 use table::Target;
 
-pub mod data;
-pub mod instructions;
+mod data;
+mod instructions;
 pub mod named;
 pub mod places;
 pub mod transfers;

@@ -5,12 +5,12 @@ use crate::Image;
 use crate::Place;
 use crate::Region;
 use crate::Waiting;
-use table::Instruction;
 use table::Target;
+use table::Touch;
 ghost use mathlib.Core.Path.{_≡_};
-ghost use mathlib.Core.Bool.{_&&_};
+ghost use mathlib.Core.Bool.{not, _&&_};
 ghost use Rattle.controller.specs.Glass.{imageOf};
-ghost use Rattle.controller.specs.Named.{counterCell, bothCells, endsStandby, graphicAddressNames, listed, instructionNames, textNames, writeByTarget, writeNames, readNames};
+ghost use Rattle.controller.specs.Named.{counterCell, bothCells, addressNames, touchNames, instructionNames, textNames, writeByTarget, writeNames, readNames};
 
 // Words 0000h..000Fh show an image of glyph memory.
 pub fn image(high: u8, low: u8) -> Image
@@ -42,89 +42,47 @@ fn both_cells(before: Place, after: Place) -> Region
     Region::Cells(counter_cell(before), counter_cell(after))
 }
 
-// Every instruction ends standby, except ignored codes and standby itself.
-fn ends_standby(instruction: Instruction) -> bool
-    ensures { λ r. ⌜ r ≡ endsStandby instruction ⌝ }
+// Whether an instruction ended standby, as the controls before and after it tell.
+fn standby_ended(before: bool, after: bool) -> bool
+    ensures { λ r. ⌜ r ≡ before && not after ⌝ }
 {
-    match instruction {
-        Instruction::Ignored => false,
-        Instruction::Clear => true,
-        Instruction::Home => true,
-        Instruction::EntryMode { id: _, s: _ } => true,
-        Instruction::Display {
-            display: _,
-            cursor: _,
-            blink: _,
-        } => true,
-        Instruction::MoveCursor { right: _ } => true,
-        Instruction::MoveDisplay { right: _ } => true,
-        Instruction::FunctionSet { dl: _, re: _, g: _ } => true,
-        Instruction::GlyphAddress(_) => true,
-        Instruction::TextAddress(_) => true,
-        Instruction::Standby => false,
-        Instruction::SetSr(_) => true,
-        Instruction::ToggleReverse(_) => true,
-        Instruction::Scroll(_) => true,
-        Instruction::GraphicAddress(_) => true,
-    }
-}
-
-fn standby_ends(standby: bool, instruction: Instruction) -> bool
-    ensures { λ r. ⌜ r ≡ standby && endsStandby instruction ⌝ }
-{
-    if standby {
-        return ends_standby(instruction);
+    if before {
+        return !after;
     }
     false
 }
 
-// A row alone names none; its column is an address set.
-fn graphic_address_names(before: Place, after: Place) -> Region
-    ensures { λ r. ⌜ r ≡ graphicAddressNames (before .waiting) before after ⌝ }
+// Address sets and cursor moves name the counter's cell before and after, a row alone none.
+fn address_names(before: Place, after: Place) -> Region
+    ensures { λ r. ⌜ r ≡ addressNames (after .waiting) before after ⌝ }
 {
-    let waiting = before.waiting;
+    let waiting = after.waiting;
     match waiting {
-        Waiting::Nothing => Region::Nothing,
-        Waiting::Row(_) => both_cells(before, after),
+        Waiting::Nothing => both_cells(before, after),
+        Waiting::Row(_) => Region::Nothing,
     }
 }
 
-// Address sets and cursor moves name the counter's cell before and after, every other executed instruction everything.
-fn listed(before: Place, after: Place, instruction: Instruction) -> Region
-    ensures { λ r. ⌜ r ≡ listed before after instruction ⌝ }
+fn touch_names(touch: Touch, before: Place, after: Place) -> Region
+    ensures { λ r. ⌜ r ≡ touchNames touch before after ⌝ }
 {
-    match instruction {
-        Instruction::Ignored => Region::Nothing,
-        Instruction::Clear => Region::Whole,
-        Instruction::Home => Region::Whole,
-        Instruction::EntryMode { id: _, s: _ } => Region::Whole,
-        Instruction::Display {
-            display: _,
-            cursor: _,
-            blink: _,
-        } => Region::Whole,
-        Instruction::MoveCursor { right: _ } => both_cells(before, after),
-        Instruction::MoveDisplay { right: _ } => Region::Whole,
-        Instruction::FunctionSet { dl: _, re: _, g: _ } => Region::Whole,
-        Instruction::GlyphAddress(_) => both_cells(before, after),
-        Instruction::TextAddress(_) => both_cells(before, after),
-        Instruction::Standby => Region::Whole,
-        Instruction::SetSr(_) => Region::Whole,
-        Instruction::ToggleReverse(_) => Region::Whole,
-        Instruction::Scroll(_) => Region::Whole,
-        Instruction::GraphicAddress(_) => graphic_address_names(before, after),
+    match touch {
+        Touch::Nothing => Region::Nothing,
+        Touch::Counter => address_names(before, after),
+        Touch::All => Region::Whole,
+        Touch::AllAndText => Region::Whole,
     }
 }
 
-pub fn instruction_names(before: Control, after: Control, instruction: Instruction) -> Region
-    ensures { λ r. ⌜ r ≡ instructionNames before after instruction ⌝ }
+pub(crate) fn instruction_names(before: Control, after: Control, touch: Touch) -> Region
+    ensures { λ r. ⌜ r ≡ instructionNames before after touch ⌝ }
 {
-    if standby_ends(before.standby, instruction) {
+    if standby_ended(before.standby, after.standby) {
         return Region::Whole;
     }
     let from = before.place;
     let to = after.place;
-    listed(from, to, instruction)
+    touch_names(touch, from, to)
 }
 
 // The word's cell and, if the counter steps, the new word's cell.
@@ -155,7 +113,7 @@ fn write_by_target(before: Place, after: Place) -> Region
     }
 }
 
-pub fn write_names(before: Control, after: Control) -> Region
+pub(crate) fn write_names(before: Control, after: Control) -> Region
     ensures { λ r. ⌜ r ≡ writeNames before after ⌝ }
 {
     if before.shifts() {
@@ -166,7 +124,7 @@ pub fn write_names(before: Control, after: Control) -> Region
     write_by_target(from, to)
 }
 
-pub fn read_names(before: Control, after: Control) -> Region
+pub(crate) fn read_names(before: Control, after: Control) -> Region
     ensures { λ r. ⌜ r ≡ readNames before after ⌝ }
 {
     if before.shifts() {

@@ -11,7 +11,7 @@ pub fn half(low: bool) -> usize
 }
 
 // A half of a word of text or glyph memory.
-pub fn word_place(word: u8, low: bool) -> usize
+pub(crate) fn word_place(word: u8, low: bool) -> usize
     requires { ⌜ word < 64 ⌝ }
     ensures { λ r. ⌜ r ≡ wordPlace word low ⌝ }
     ensures inside { λ r. ⌜ r < 128 ⌝ }
@@ -20,7 +20,7 @@ pub fn word_place(word: u8, low: bool) -> usize
 }
 
 // A half of a word of graphic memory.
-pub fn graphic_place(row: u8, column: u8, low: bool) -> usize
+pub(crate) fn graphic_place(row: u8, column: u8, low: bool) -> usize
     requires { ⌜ (row < 64) × (column < 16) ⌝ }
     ensures { λ r. ⌜ r ≡ graphicPlace row column low ⌝ }
     ensures inside { λ r. ⌜ r < 2048 ⌝ }

@@ -4,38 +4,46 @@ use crate::Done;
 use crate::Region;
 use crate::data::find;
 use crate::data::store;
-use crate::instructions::clears;
 use crate::named::instruction_names;
 use crate::named::read_names;
 use crate::named::write_names;
 use events::Deed;
+use events::Made;
 use events::Transfer;
-use table::Instruction;
+use table::Touch;
 ghost use mathlib.Core.Path.{_≡_};
-ghost use Rattle.controller.specs.Memories.{before, after};
+ghost use mathlib.Core.List.{List};
+ghost use Prim.Native.Nat.{ℕ};
+ghost use Rattle.controller.specs.Memories.{memories, before, after};
 ghost use Rattle.controller.specs.State.{InRange};
 ghost use Rattle.controller.specs.Instructions.{cleared};
-ghost use Rattle.controller.specs.Transfers.{acted, instructed, executed, written, readOut, statusRead, carriedOut, restarted, performed};
+ghost use Rattle.controller.specs.Transfers.{acted, executed, written, readOut, statusRead, carriedOut, restarted, performed};
 
 // Clear fills the text; no other instruction touches a memory.
-fn clear(text: &mut [u8; 128], instruction: Instruction)
-    ensures { λ _. ⌜ now (text .exit) ≡ cleared instruction (now (text .entry)) ⌝ }
+fn clear(text: &mut [u8; 128], touch: Touch)
+    ensures { λ _. ⌜ now (text .exit) ≡ cleared touch (now (text .entry)) ⌝ }
 {
-    if clears(instruction) {
-        *text = [0x20u8; 128];
+    match touch {
+        Touch::Nothing => {}
+        Touch::Counter => {}
+        Touch::All => {}
+        Touch::AllAndText => {
+            *text = [0x20u8; 128];
+        }
     }
 }
 
-// An instruction write.
+// An instruction write. It is lent the text alone: whatever the other two memories hold, they stay.
 pub fn execute(text: &mut [u8; 128], control: Control, byte: u8) -> Done
     requires { ⌜ InRange control ⌝ }
-    ensures { λ r. ⌜ instructed (now (text .exit)) r ≡ executed (now (text .entry)) control byte ⌝ }
+    ensures { λ r. ⌜ ((glyph graphic : List ℕ) → acted (memories (now (text .exit)) glyph graphic) r ≡ executed (memories (now (text .entry)) glyph graphic) control byte) ⌝ }
     ensures valid { λ r. ⌜ InRange (r .control) ⌝ }
 {
     let instruction = table::decode(control.modes(), byte);
-    clear(text, instruction);
+    let touch = table::touches(instruction);
+    clear(text, touch);
     let next = control.obey(instruction);
-    let region = instruction_names(control, next, instruction);
+    let region = instruction_names(control, next, touch);
     Done {
         control: next,
         reply: 0,
@@ -121,14 +129,19 @@ fn carry_out(
 }
 
 // Everything as fresh.
-fn restart(text: &mut [u8; 128], glyph: &mut [u8; 128], graphic: &mut [u8; 2048]) -> Done
-    ensures { λ r. ⌜ acted (after text glyph graphic) r ≡ restarted ⌝ }
+fn restart(
+    text: &mut [u8; 128],
+    glyph: &mut [u8; 128],
+    graphic: &mut [u8; 2048],
+    made: Made,
+) -> Done
+    ensures { λ r. ⌜ acted (after text glyph graphic) r ≡ restarted made ⌝ }
 {
     *text = [0x20u8; 128];
     *glyph = [0u8; 128];
     *graphic = [0u8; 2048];
     Done {
-        control: Control::fresh(),
+        control: Control::fresh(made),
         reply: 0,
         region: Region::Whole,
     }
@@ -152,6 +165,6 @@ pub fn perform(
             region: Region::Nothing,
         },
         Deed::Whole(transfer) => carry_out(text, glyph, graphic, control, transfer),
-        Deed::Fresh(_) => restart(text, glyph, graphic),
+        Deed::Fresh(pin) => restart(text, glyph, graphic, control.remade(pin)),
     }
 }

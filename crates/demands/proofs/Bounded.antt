@@ -33,11 +33,8 @@ use Rattle.repaint.specs.Repaint.{named, countNamed}
 use Rattle.repaint.proofs.Counts.{count-cells, count-glyph, count-graphic, count-nothing}
 use Rattle.calls.specs.State.{State}
 use Rattle.calls.specs.Calls.{Called, unlessOther, takenOn, reaching, called}
-use Rattle.demands.specs.Wires.{isData}
-
--- the count of what a transfer names
-abbrev pub countOf : Acted → ℕ
-countOf a = countNamed (a .done .control .view) (a .memories .text) (a .done .region)
+use Rattle.demands.specs.Wires.{countOf, isData}
+use Rattle.demands.specs.Demand3.{AtMost64, GlyphAtMost32, GraphicAtMost1}
 
 -- with S = 0 no word shifts the display
 unshifted : (c : Control) → c .entry .s ≡ false → shifts c ≡ false
@@ -112,20 +109,23 @@ module _ (e : Seen) (s : State) (frame : List ℕ) (event : Event) (n : ℕ) whe
       (reached-count (takenOn s event) h) (omega arith)
 
 -- with S = 0 a call that carries out a data transfer names at most 64
-pub called-count :
-    (e : Seen) (s : State) (frame : List ℕ) (event : Event) (t : Transfer)
-    → reaching (takenOn s event) ≡ Whole t
-    → isData t ≡ true
-    → s .control .entry .s ≡ false
-    → called e s frame event .count ≤ 64
+pub at-most-64 : AtMost64
 unfolding performed
-called-count e s frame event t k d z = bounded-count e s frame event 64 (rw k (data-count (s .memories) (s .control) t d z))
+at-most-64 e s frame event t k d z = bounded-count e s frame event 64 (rw k (data-count (s .memories) (s .control) t d z))
 
--- and one that carries out a write at most 64, 32 or 1, by the target
-pub called-write-count :
-    (e : Seen) (s : State) (frame : List ℕ) (event : Event) (byte : ℕ)
-    → reaching (takenOn s event) ≡ Whole (Write byte)
-    → s .control .entry .s ≡ false
-    → called e s frame event .count ≤ writeBound (s .control .place .target)
+-- glyph and graphic writes never shift the display, so S does not matter
+glyph-count : (m : Memories) (c : Control) (b : ℕ) → c .place .target ≡ Glyph → countOf (written m c b) ≤ 32
+unfolding written writeNames countNamed named covers
+glyph-count m c b h = rw h (count-glyph _ _ _ _)
+
+graphic-count : (m : Memories) (c : Control) (b : ℕ) → c .place .target ≡ Graphic → countOf (written m c b) ≤ 1
+unfolding written writeNames countNamed named covers
+graphic-count m c b h = rw h (count-graphic _ _ _ _)
+
+pub glyph-at-most-32 : GlyphAtMost32
 unfolding performed carriedOut
-called-write-count e s frame event byte k z = bounded-count e s frame event _ (rw k (written-count (s .memories) (s .control) byte z))
+glyph-at-most-32 e s frame call byte k t = bounded-count e s frame call 32 (rw k (glyph-count (s .memories) (s .control) byte t))
+
+pub graphic-at-most-1 : GraphicAtMost1
+unfolding performed carriedOut
+graphic-at-most-1 e s frame call byte k t = bounded-count e s frame call 1 (rw k (graphic-count (s .memories) (s .control) byte t))

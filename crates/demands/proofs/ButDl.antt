@@ -16,21 +16,21 @@ use Rattle.controller.specs.declared.Function.{Function}
 use Rattle.controller.specs.declared.Control.{Control}
 use Rattle.controller.specs.Memories.{Memories}
 use Rattle.controller.specs.Instructions as instructions
-use Rattle.controller.specs.Instructions.{withFunction, begun, obeyed, cleared, modes}
+use Rattle.controller.specs.Instructions.{withFunction, begun, obeyed, modes}
 use Rattle.controller.specs.Data.{movedOn}
 use Rattle.controller.specs.Named.{instructionNames, writeNames, readNames}
-use Rattle.controller.specs.Transfers.{Acted, acted, instructed, obeyedDone, executed, written, readOut, statusRead, withText, carriedOut, performed}
+use Rattle.controller.specs.Transfers.{Acted, acted, obeyedActed, executed, written, readOut, statusRead, carriedOut, performed}
 use Rattle.events.specs.declared.Transfer.{Transfer}
 use Rattle.events.specs.declared.Transfer.the-variants.{Instruct, Write, Status, Read}
 use Rattle.events.specs.declared.Deed.{Deed}
 use Rattle.events.specs.declared.Deed.the-variants.{Nothing, Whole, Fresh}
 use Rattle.links.specs.Halves as halves
-use Rattle.links.specs.Items.{SameButBit4, same, functionSets}
+use Rattle.links.specs.Items.{WholeWrite, write, deed, SameButBit4, same, functionSets}
 use Rattle.links.specs.Connector.{act}
 use Rattle.links.specs.Statements.{Respected}
 use Rattle.picture.specs.Picture.{Seen, byteAt, effectsOf}
-use Rattle.repaint.specs.Repaint.{repainted, countNamed, named}
-use Rattle.demands.specs.Wires.{Board, boardAfter, board, withDl}
+use Rattle.repaint.specs.Repaint.{repainted, named}
+use Rattle.demands.specs.Wires.{Board, countOf, boardAfter, board, withDl}
 
 -- all but DL of what a transfer leaves, and of a board
 abbrev pub actedButDl : Acted → Acted
@@ -38,7 +38,7 @@ actedButDl a =
     acted (a .memories) (record { control = withDl true (a .done .control); reply = a .done .reply; region = a .done .region })
 
 abbrev pub boardButDl : Board → Board
-boardButDl b = record { memories = b .memories; control = withDl true (b .control); frame = b .frame; counts = b .counts }
+boardButDl b = record { memories = b .memories; control = withDl true (b .control); frame = b .frame }
 
 -- the byte of a function set says the same for RE and G as another that differs in bit 4 alone
 functionSet-said : (m : Modes) (b : ℕ) → 0x20 ≤ b → b < 0x40 → said m b ≡ functionSet b
@@ -58,29 +58,25 @@ abbrev functionButDl : Function → Function
 functionButDl f = record { dl = true; re = f .re; g = f .g }
 
 function-but-dl : (was is was' is' r g re new : Bool) →
-    functionButDl (instructions.functionSet (record { dl = was; re = r; g = g }) is re new)
-    ≡ functionButDl (instructions.functionSet (record { dl = was'; re = r; g = g }) is' re new)
+    functionButDl (instructions.setFunction (record { dl = was; re = r; g = g }) is re new)
+    ≡ functionButDl (instructions.setFunction (record { dl = was'; re = r; g = g }) is' re new)
 function-but-dl was is was' is' false g false new = refl
 function-but-dl was is was' is' false g true new = refl
 function-but-dl was is was' is' true g false new = refl
 function-but-dl was is was' is' true g true new = refl
 
--- what an instruction leaves
-abbrev done : Memories → Control → Instruction → Acted
-done m c i = withText m (instructed (cleared i (m .text)) (obeyedDone c i))
-
 function-set-but-dl : (m : Memories) (c : Control) (is is' re g : Bool) →
-    actedButDl (done m c (FunctionSet is re g)) ≡ actedButDl (done m (withDl true c) (FunctionSet is' re g))
+    actedButDl (obeyedActed m c (FunctionSet is re g)) ≡ actedButDl (obeyedActed m (withDl true c) (FunctionSet is' re g))
 unfolding obeyed instructionNames
 function-set-but-dl m c is is' re g =
-    let a = done m c (FunctionSet is re g) in
+    let a = obeyedActed m c (FunctionSet is re g) in
     ap (λ (f : Function). acted (a .memories) (record {
       control = withFunction f (begun c);
       reply = 0;
       region = a .done .region;
     })) (function-but-dl (c .function .dl) is true is' (c .function .re) (c .function .g) re g)
 
-obeyed-but-dl : (m : Memories) (c : Control) (i : Instruction) → actedButDl (done m c i) ≡ actedButDl (done m (withDl true c) i)
+obeyed-but-dl : (m : Memories) (c : Control) (i : Instruction) → actedButDl (obeyedActed m c i) ≡ actedButDl (obeyedActed m (withDl true c) i)
 unfolding obeyed instructionNames
 obeyed-but-dl m c Ignored = refl
 obeyed-but-dl m c Clear = refl
@@ -101,7 +97,7 @@ obeyed-but-dl m c (GraphicAddress a) = refl
 -- two function sets in a row of the table
 function-sets-but-dl : (m : Memories) (c : Control) (b d : ℕ) →
     0x20 ≤ b → b < 0x40 → 0x20 ≤ d → d < 0x40 → bits3-0 b ≡ bits3-0 d →
-    actedButDl (done m c (said (modes c) b)) ≡ actedButDl (done m (withDl true c) (said (modes c) d))
+    actedButDl (obeyedActed m c (said (modes c) b)) ≡ actedButDl (obeyedActed m (withDl true c) (said (modes c) d))
 function-sets-but-dl m c b d p q r s e =
     rw (functionSet-said (modes c) b p q, functionSet-said (modes c) d r s, bit2-same b d e, bit1-same b d e)
     (function-set-but-dl m c (bit 4 b) (bit 4 d) (bit 2 d) (bit 1 d))
@@ -130,7 +126,7 @@ performed-but-dl m c (Fresh pin) = refl
 
 -- the picture and the named bytes do not look at DL
 boardAfter-but-dl : (e : Seen) (b : Board) (a : Acted) → boardButDl (boardAfter e b a) ≡ boardButDl (boardAfter e b (actedButDl a))
-unfolding repainted countNamed named byteAt effectsOf
+unfolding repainted named byteAt effectsOf
 boardAfter-but-dl e b a = refl
 
 module _ (e : Seen) where
@@ -154,14 +150,39 @@ module _ (e : Seen) where
       acted-but-dl s (performed (s .memories) (s .control) d) (performed (s .memories) (withDl true (s .control)) d)
       (performed-but-dl (s .memories) (s .control) d)
 
-  pub board-respects : Respected (board e) (λ s t. boardButDl s ≡ boardButDl t)
-  board-respects = record {
-    writes = λ s t register b d h k same-board q.
+  -- two boards that are the same but DL: writes alike and deeds leave such boards, and count the same
+  module _ (s t : Board) (same-board : boardButDl s ≡ boardButDl t) where
+    act-agrees : {register : Bool} {b d : ℕ} → SameButBit4 register b d → boardButDl (act (board e) s register b) ≡ boardButDl (act (board e) t register d)
+    act-agrees {register} {b} {d} q =
         act-but-dl s q
         ∙ ap (λ (x : Board). boardButDl (act (board e) x register d)) same-board
-        ∙ sym (act-but-dl t {register = register} {b = d} same);
-    events = λ s t x same-board.
-        deed-but-dl s (x .deed)
-        ∙ ap (λ (y : Board). boardButDl (board e .perform y (x .deed) .state)) same-board
-        ∙ sym (deed-but-dl t (x .deed));
+        ∙ sym (act-but-dl t {register = register} {b = d} same)
+
+    pub write-agrees : (w v : WholeWrite) → w .register ≡ v .register → SameButBit4 (w .register) (w .byte) (v .byte) →
+        boardButDl (act (board e) s (w .register) (w .byte)) ≡ boardButDl (act (board e) t (v .register) (v .byte))
+    write-agrees w v p q = act-agrees q ∙ ap (λ (r : Bool). boardButDl (act (board e) t r (v .byte))) p
+
+    pub deed-agrees : (d : Deed) → boardButDl (board e .perform s d .state) ≡ boardButDl (board e .perform t d .state)
+    deed-agrees d =
+        deed-but-dl s d ∙ ap (λ (y : Board). boardButDl (board e .perform y d .state)) same-board ∙ sym (deed-but-dl t d)
+
+    pub write-count-agrees : (w v : WholeWrite) → w .register ≡ v .register → SameButBit4 (w .register) (w .byte) (v .byte) →
+        countOf (performed (s .memories) (s .control) (deed (write w))) ≡ countOf (performed (t .memories) (t .control) (deed (write v)))
+    unfolding performed
+    write-count-agrees w v p q =
+        ap countOf (carriedOut-but-dl (s .memories) (s .control) q)
+        ∙ ap (λ (x : Board). countOf (carriedOut (x .memories) (x .control) (halves.writing (w .register) (v .byte)))) same-board
+        ∙ sym (ap countOf (carriedOut-but-dl (t .memories) (t .control) {register = w .register} {b = v .byte} same))
+        ∙ ap (λ (r : Bool). countOf (carriedOut (t .memories) (t .control) (halves.writing r (v .byte)))) p
+
+    pub deed-count-agrees : (d : Deed) → countOf (performed (s .memories) (s .control) d) ≡ countOf (performed (t .memories) (t .control) d)
+    deed-count-agrees d =
+        ap countOf (performed-but-dl (s .memories) (s .control) d)
+        ∙ ap (λ (x : Board). countOf (performed (x .memories) (x .control) d)) same-board
+        ∙ sym (ap countOf (performed-but-dl (t .memories) (t .control) d))
+
+  pub board-respects : Respected (board e) (λ s t. boardButDl s ≡ boardButDl t)
+  board-respects = record {
+    writes = λ s t register b d h k same-board q. act-agrees s t same-board q;
+    events = λ s t x same-board. deed-agrees s t same-board (x .deed);
   }

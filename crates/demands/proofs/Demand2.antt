@@ -26,6 +26,10 @@ use Rattle.demands.proofs.Agreement.{call-is-connected, sent-is-receive
 use Rattle.demands.proofs.KeepDl.{function-sets-keep-dl}
 use Rattle.panel.specs.Handed.{handed}
 use Rattle.demands.specs.Demand2.{Run, yielded, SequencesAsDefined, SelectLowIdles, SendsThreeBytes, Demand2}
+use Rattle.links.proofs.HalvesPaired.{halves-read-whole}
+use Rattle.demands.specs.Wires.{board}
+use Rattle.demands.proofs.Stored.{words-stored}
+use Rattle.demands.proofs.ReadBack.{read-back}
 use Rattle.demands.proofs.Replies.{replies-to-reads}
 
 sequences-as-defined : SequencesAsDefined
@@ -63,6 +67,9 @@ demand-2 =
       resets = reset-fresh;
       selectLow = select-low-idles;
       draws = draws;
+      stores = words-stored;
+      readsBack = read-back;
+      readsHalves = λ e. halves-read-whole (board e);
       sends = sends-three-bytes;
       receives = sent-is-received;
       receivesAll = writes-are-received;

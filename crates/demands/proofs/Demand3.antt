@@ -12,29 +12,25 @@ use Rattle.base.proofs.Choice.{either, by-test}
 use Rattle.base.proofs.Counting.{count-none}
 use Rattle.base.proofs.Painting.{painted-at}
 use Rattle.base.proofs.Tests.{or-neither}
-use Rattle.table.specs.declared.Target.the-variants.{Glyph, Graphic}
 use Rattle.controller.specs.declared.Control.{Control}
 use Rattle.controller.specs.Memories.{Memories}
-use Rattle.controller.specs.Named.{covers, writeNames}
-use Rattle.controller.specs.Transfers.{written, carriedOut, performed}
+use Rattle.controller.specs.Named.{covers}
+use Rattle.controller.specs.Transfers.{performed}
 use Rattle.events.specs.declared.Event.{Event}
-use Rattle.events.specs.declared.Deed.the-variants.{Whole}
-use Rattle.events.specs.declared.Transfer.the-variants.{Write}
 use Rattle.links.specs.declared.Taken.{Taken}
 use Rattle.links.specs.declared.Taken.the-variants.{OtherLink, Carries}
 use Rattle.picture.specs.Picture.{Seen, fontsOf, lookOf}
 use Rattle.picture.specs.Refusals.{refusalOf}
-use Rattle.repaint.proofs.Counts.{count-glyph, count-graphic}
 use Rattle.picture.proofs.CellRows.{picture-at}
 use Rattle.picture.proofs.Accepted as sizes
 use Rattle.repaint.specs.Repaint.{named, repainted, countNamed}
 use Rattle.calls.specs.State.{State, Valid}
-use Rattle.calls.specs.Calls.{Called, unlessOther, takenOn, reaching, Fits, called, after}
+use Rattle.calls.specs.Calls.{Called, unlessOther, takenOn, reaching, Fits, called, afterCalls}
 use Rattle.calls.proofs.Kept.{fresh-state-valid, called-valid, admitted, still-fits}
 use Rattle.demands.proofs.Repainted.{performed-unnamed}
-use Rattle.demands.proofs.Bounded.{countOf, called-count}
-use Rattle.demands.proofs.Sequences.{after-valid, after-shows}
-use Rattle.demands.specs.Demand3.{pictureOf, namedActed, namedBy, everNamed, PictureStands, NamedBytesShown, CountIsNumber, GlyphAtMost32, GraphicAtMost1, Demand3}
+use Rattle.demands.proofs.Bounded.{at-most-64, glyph-at-most-32, graphic-at-most-1}
+use Rattle.demands.proofs.Sequences.{after-valid, after-length, after-shows}
+use Rattle.demands.specs.Demand3.{pictureOf, namedActed, namedBy, everNamed, PictureStands, NamedBytesShown, CountIsNumber, Demand3}
 
 picture-stands : PictureStands
 picture-stands e s calls v = after-shows e s (pictureOf e s) calls v refl
@@ -101,8 +97,8 @@ after-keeps :
     → Fits e frame
     → i < 1024
     → everNamed e s frame calls i ≡ false
-    → getD (pictureOf e (after e s frame calls .state)) i 0 ≡ getD (pictureOf e s) i 0
-unfolding after everNamed
+    → getD (pictureOf e (afterCalls e s frame calls .state)) i 0 ≡ getD (pictureOf e s) i 0
+unfolding afterCalls everNamed
 after-keeps e s frame [] i v fits h u = refl
 after-keeps e s frame (call ∷ calls) i v fits h u =
     let q = or-neither (namedBy s call i) (everNamed e (called e s frame call .state) (called e s frame call .frame) calls i) u in
@@ -111,7 +107,7 @@ after-keeps e s frame (call ∷ calls) i v fits h u =
     ∙ call-keeps e s frame call i fits h v (q .0)
 
 named-bytes-shown : NamedBytesShown
-unfolding after everNamed
+unfolding afterCalls everNamed
 named-bytes-shown e s frame [] i v fits h = refl
 named-bytes-shown e s frame (call ∷ calls) i v fits h =
     let s' = called e s frame call .state in
@@ -126,42 +122,14 @@ named-bytes-shown e s frame (call ∷ calls) i v fits h =
     (λ n. rw (n, after-keeps e s' frame' calls i v' fits' h t) (rw t at on ∙ rw n at one))
     (λ n. rw (n, t) (rw t at on ∙ rw n at one)))
 
--- glyph and graphic writes never shift the display, so S does not matter
-glyph-count : (m : Memories) (c : Control) (b : ℕ) → c .place .target ≡ Glyph → countOf (written m c b) ≤ 32
-unfolding written writeNames countNamed named covers
-glyph-count m c b h = rw h (count-glyph _ _ _ _)
-
-graphic-count : (m : Memories) (c : Control) (b : ℕ) → c .place .target ≡ Graphic → countOf (written m c b) ≤ 1
-unfolding written writeNames countNamed named covers
-graphic-count m c b h = rw h (count-graphic _ _ _ _)
-
--- a bound on what reaches the controller is a bound on the call
-module _ (e : Seen) (s : State) (frame : List ℕ) (byte n : ℕ) (h : countOf (written (s .memories) (s .control) byte) ≤ n) where
-  reached-write : (t : Taken) → reaching t ≡ Whole (Write byte) → unlessOther e s frame t .count ≤ n
-  unfolding performed carriedOut
-  reached-write OtherLink k = omega arith
-  reached-write (Carries c) k = rw k h
-
-  called-write : (call : Event) → reaching (takenOn s call) ≡ Whole (Write byte) → called e s frame call .count ≤ n
-  unfolding called
-  called-write call k =
-      either (λ (x : Called). x .count ≤ n) (eqb (refusalOf (length frame) (length (e .half)) (length (e .full))) 0)
-      (reached-write (takenOn s call) k)
-      (omega arith)
-
-glyph-at-most-32 : GlyphAtMost32
-glyph-at-most-32 e s frame call byte k t = called-write e s frame byte 32 (glyph-count (s .memories) (s .control) byte t) call k
-
-graphic-at-most-1 : GraphicAtMost1
-graphic-at-most-1 e s frame call byte k t = called-write e s frame byte 1 (graphic-count (s .memories) (s .control) byte t) call k
-
 pub demand-3 : Demand3
 demand-3 =
     record {
       stands = picture-stands;
       shown = named-bytes-shown;
+      lengths = after-length;
       counts = count-is-number;
-      bounded = called-count;
+      bounded = at-most-64;
       glyphBounded = glyph-at-most-32;
       graphicBounded = graphic-at-most-1;
       begins = fresh-state-valid;

@@ -21,7 +21,7 @@ use Rattle.controller.specs.Instructions.{obeyed, modes}
 use Rattle.controller.specs.Data.{movedOn}
 use Rattle.controller.specs.Transfers.{executed, written, carriedOut, performed}
 use Rattle.links.specs.Halves as halves
-use Rattle.links.specs.Items.{WholeWrite, bytes, halves, serial}
+use Rattle.links.specs.Items.{WholeWrite, wholeBytes, halves, serial}
 use Rattle.links.specs.Connector.{act, HasDl}
 use Rattle.picture.specs.Picture.{Seen}
 use Rattle.demands.specs.Wires.{Board, boardOf, items, board, SetsDl}
@@ -50,7 +50,7 @@ module _ (dl : Bool) where
       (was is r g re new : Bool)
       → was ≡ dl
       → is ≡ dl
-      → instructions.functionSet (record { dl = was; re = r; g = g }) is re new .dl ≡ dl
+      → instructions.setFunction (record { dl = was; re = r; g = g }) is re new .dl ≡ dl
   function-dl was is false g false new h k = k
   function-dl was is false g true new h k = h
   function-dl was is true g false new h k = h
@@ -127,6 +127,6 @@ module _ (dl : Bool) where
   )
 
 pub function-sets-keep-dl : FunctionSetsKeepDl
-function-sets-keep-dl e bytes s frame writes h k = writes-dl true e writes (boardOf s frame) h k
+function-sets-keep-dl e wholeBytes s frame writes h k = writes-dl true e writes (boardOf s frame) h k
 function-sets-keep-dl e (halves low) s frame writes h k = writes-dl false e writes (boardOf s frame) h k
 function-sets-keep-dl e serial s frame writes h k = tt

@@ -2,6 +2,7 @@ pub mod Repainted
 pub mod Bounded
 pub mod Sequences
 pub mod ButDl
+pub mod ItemCounts
 pub mod Agreement
 pub mod KeepDl
 pub mod Tables
@@ -12,5 +13,7 @@ pub mod Replies
 pub mod Demand2
 pub mod Demand3
 pub mod Readings
+pub mod Addresses
+pub mod Stored
 pub mod ReadBack
 pub mod Tight

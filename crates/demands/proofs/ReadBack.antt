@@ -11,9 +11,7 @@ use Rattle.table.specs.declared.Target.the-variants.{Text, Glyph, Graphic}
 use Rattle.table.specs.declared.Modes.{Modes}
 use Rattle.table.specs.declared.Instruction.{Instruction}
 use Rattle.table.specs.declared.Instruction.the-variants.{GlyphAddress, TextAddress, GraphicAddress}
-use Rattle.table.specs.Table as rows
-use Rattle.table.specs.Table.{40h-7Fh, 80h-FFh, table, said}
-use Rattle.table.proofs.Rows.{row-is}
+use Rattle.table.specs.Table.{said}
 use Rattle.controller.specs.declared.Control.{Control}
 use Rattle.controller.specs.declared.Place.{Place}
 use Rattle.controller.specs.declared.Entry.{Entry}
@@ -38,8 +36,9 @@ use Rattle.calls.specs.Calls.{Fits, called}
 use Rattle.demands.specs.Wires.{answers}
 use Rattle.calls.proofs.Kept.{still-fits}
 use Rattle.demands.specs.Demand1.{isSerial}
-use Rattle.demands.specs.Readings.{instruct, write, status, read}
+use Rattle.demands.specs.Readings.{instruct, writeData, readStatus, readData}
 use Rattle.demands.specs.ReadBack.{repliesTo, toText, toGlyph, toGraphic, thereAndBack, bothRead, TakesBytes, ReadBack}
+use Rattle.demands.proofs.Addresses.{says-text, says-glyph, says-graphic}
 use Rattle.demands.proofs.Readings.{Told, tells, call-told}
 
 -- what calls reply, without the frame
@@ -65,23 +64,15 @@ module _ (l : List ℕ) (i b c : ℕ) (h : i + 1 < length l) where
   second-back : getD (set (set l (i + 0) b) (i + 1) c) (i + 1) 0 ≡ c
   second-back = getD-set-same (set l (i + 0) b) (i + 1) c 0 (omega (arith, length-set l (i + 0) b))
 
-says-text : (sr : Bool) (t : Target) (a : ℕ) → a < 64 → said (record { re = false; sr = sr; target = t }) (0x80 + a) ≡ TextAddress a
-unfolding said
-says-text sr t a h =
-    ap (λ (r : rows.Row). table (record { re = false; sr = sr; target = t }) r (0x80 + a) .basic) (row-is 80h-FFh (0x80 + a) (omega arith) (omega arith))
-    ∙ ap TextAddress (omega arith)
+-- an address is the low bits of its instruction
+text-address : (sr : Bool) (t : Target) (a : ℕ) → a < 64 → said (record { re = false; sr = sr; target = t }) (0x80 + a) ≡ TextAddress a
+text-address sr t a h = says-text sr t (0x80 + a) (omega arith) (omega arith) ∙ ap TextAddress (omega arith)
 
-says-glyph : (t : Target) (a : ℕ) → a < 64 → said (record { re = false; sr = false; target = t }) (0x40 + a) ≡ GlyphAddress a
-unfolding said
-says-glyph t a h =
-    ap (λ (r : rows.Row). table (record { re = false; sr = false; target = t }) r (0x40 + a) .basic) (row-is 40h-7Fh (0x40 + a) (omega arith) (omega arith))
-    ∙ ap GlyphAddress (omega arith)
+glyph-address : (t : Target) (a : ℕ) → a < 64 → said (record { re = false; sr = false; target = t }) (0x40 + a) ≡ GlyphAddress a
+glyph-address t a h = says-glyph t (0x40 + a) (omega arith) (omega arith) ∙ ap GlyphAddress (omega arith)
 
-says-graphic : (sr : Bool) (t : Target) (a : ℕ) → a < 64 → said (record { re = true; sr = sr; target = t }) (0x80 + a) ≡ GraphicAddress a
-unfolding said
-says-graphic sr t a h =
-    ap (λ (r : rows.Row). table (record { re = true; sr = sr; target = t }) r (0x80 + a) .extended) (row-is 80h-FFh (0x80 + a) (omega arith) (omega arith))
-    ∙ ap GraphicAddress (omega arith)
+graphic-address : (sr : Bool) (t : Target) (a : ℕ) → a < 64 → said (record { re = true; sr = sr; target = t }) (0x80 + a) ≡ GraphicAddress a
+graphic-address sr t a h = says-graphic sr t (0x80 + a) (omega arith) (omega arith) ∙ ap GraphicAddress (omega arith)
 
 module _ (q : Pairing) (entry : Entry) (shown : Shown) (g : Bool) where
   -- a panel that takes bytes, at a place
@@ -93,12 +84,12 @@ module _ (q : Pairing) (entry : Entry) (shown : Shown) (g : Bool) where
     to-text : (a : ℕ) → a < 64 → (calls : List Event)
         → replies (at m p false sr v standby) (toText a ++ calls) ≡ 0 ∷ replies (at m (pointed Text a (p .row)) false sr v false) calls
     unfolding replies tells takenBy byWidth performed carriedOut executed obeyed
-    to-text a h calls = rw (says-text sr (p .target) a h)
+    to-text a h calls = rw (text-address sr (p .target) a h)
 
     to-glyph : (a : ℕ) → a < 64 → (calls : List Event)
         → replies (at m p false false v standby) (toGlyph a ++ calls) ≡ 0 ∷ replies (at m (pointed Glyph a (p .row)) false false v false) calls
     unfolding replies tells takenBy byWidth performed carriedOut executed obeyed
-    to-glyph a h calls = rw (says-glyph (p .target) a h)
+    to-glyph a h calls = rw (glyph-address (p .target) a h)
 
     to-graphic : (row column : ℕ) → row < 64 → column < 16 → (calls : List Event)
         → replies (at m (withWaiting Nothing p) true sr v standby) (toGraphic row column ++ calls)
@@ -107,42 +98,42 @@ module _ (q : Pairing) (entry : Entry) (shown : Shown) (g : Bool) where
     to-graphic row column h l calls =
         let r : row % 64 ≡ row = omega arith in
         let k : column % 16 ≡ column = omega arith in
-        rw (says-graphic sr (p .target) row h, says-graphic sr (p .target) column (omega arith), r, k)
+        rw (graphic-address sr (p .target) row h, graphic-address sr (p .target) column (omega arith), r, k)
 
   -- what is read of two bytes written side by side
   module _ (m : Memories) (p : Place) (sr : Bool) (v : View) (standby : Bool) (b c : ℕ) where
     text-back :
         (a : ℕ) → a < 64 → length (m .text) ≡ 128
-        → replies (at m p false sr v standby) (thereAndBack (toText a) b c) ≡ bothRead (toText a) (stepped (entry .id) a) b c
+        → replies (at m p false sr v standby) (thereAndBack (toText a) b c) ≡ bothRead (toText a) a (stepped (entry .id) a) b c
     unfolding replies tells takenBy byWidth performed carriedOut written readOut statusRead stored found moved movedOn
     text-back a h long =
         let to = at m (pointed Text a (p .row)) false sr v false in
         let one = written m (to .control) b in
         let two = written (one .memories) (one .done .control) c in
         let fits : 2 * a + 1 < length (m .text) = omega arith in
-        to-text m p sr v standby a h (write b ∷ write c ∷ status ∷ (toText a ++ (read ∷ read ∷ read ∷ [])))
-        ∙ ap (λ (l : List ℕ). 0 ∷ 0 ∷ 0 ∷ stepped (entry .id) a ∷ l)
-        (to-text (two .memories) (two .done .control .place) sr (two .done .control .view) false a h (read ∷ read ∷ read ∷ []))
+        to-text m p sr v standby a h (readStatus ∷ writeData b ∷ readStatus ∷ writeData c ∷ readStatus ∷ (toText a ++ (readData ∷ readData ∷ readData ∷ readStatus ∷ [])))
+        ∙ ap (λ (l : List ℕ). 0 ∷ a ∷ 0 ∷ a ∷ 0 ∷ stepped (entry .id) a ∷ l)
+        (to-text (two .memories) (two .done .control .place) sr (two .done .control .view) false a h (readData ∷ readData ∷ readData ∷ readStatus ∷ []))
         ∙ rw (first-back (m .text) (2 * a) b c fits, second-back (m .text) (2 * a) b c fits)
 
     glyph-back :
         (a : ℕ) → a < 64 → length (m .glyph) ≡ 128
-        → replies (at m p false false v standby) (thereAndBack (toGlyph a) b c) ≡ bothRead (toGlyph a) (stepped (entry .id) a) b c
+        → replies (at m p false false v standby) (thereAndBack (toGlyph a) b c) ≡ bothRead (toGlyph a) a (stepped (entry .id) a) b c
     unfolding replies tells takenBy byWidth performed carriedOut written readOut statusRead stored found moved movedOn
     glyph-back a h long =
         let to = at m (pointed Glyph a (p .row)) false false v false in
         let one = written m (to .control) b in
         let two = written (one .memories) (one .done .control) c in
         let fits : 2 * a + 1 < length (m .glyph) = omega arith in
-        to-glyph m p sr v standby a h (write b ∷ write c ∷ status ∷ (toGlyph a ++ (read ∷ read ∷ read ∷ [])))
-        ∙ ap (λ (l : List ℕ). 0 ∷ 0 ∷ 0 ∷ stepped (entry .id) a ∷ l)
-        (to-glyph (two .memories) (two .done .control .place) sr (two .done .control .view) false a h (read ∷ read ∷ read ∷ []))
+        to-glyph m p sr v standby a h (readStatus ∷ writeData b ∷ readStatus ∷ writeData c ∷ readStatus ∷ (toGlyph a ++ (readData ∷ readData ∷ readData ∷ readStatus ∷ [])))
+        ∙ ap (λ (l : List ℕ). 0 ∷ a ∷ 0 ∷ a ∷ 0 ∷ stepped (entry .id) a ∷ l)
+        (to-glyph (two .memories) (two .done .control .place) sr (two .done .control .view) false a h (readData ∷ readData ∷ readData ∷ readStatus ∷ []))
         ∙ rw (first-back (m .glyph) (2 * a) b c fits, second-back (m .glyph) (2 * a) b c fits)
 
     graphic-back :
         (row column : ℕ) → row < 64 → column < 16 → length (m .graphic) ≡ 2048
         → replies (at m (withWaiting Nothing p) true sr v standby) (thereAndBack (toGraphic row column) b c)
-        ≡ bothRead (toGraphic row column) ((column + 1) % 16) b c
+        ≡ bothRead (toGraphic row column) column ((column + 1) % 16) b c
     unfolding replies tells takenBy byWidth performed carriedOut written readOut statusRead stored found moved movedOn
     graphic-back row column h k long =
         let to = at m (pointed Graphic column row) true sr v false in
@@ -150,9 +141,9 @@ module _ (q : Pairing) (entry : Entry) (shown : Shown) (g : Bool) where
         let two = written (one .memories) (one .done .control) c in
         let place = 32 * row + 2 * column in
         let fits : place + 1 < length (m .graphic) = omega arith in
-        to-graphic m p sr v standby row column h k (write b ∷ write c ∷ status ∷ (toGraphic row column ++ (read ∷ read ∷ read ∷ [])))
-        ∙ ap (λ (l : List ℕ). 0 ∷ 0 ∷ 0 ∷ 0 ∷ (column + 1) % 16 ∷ l)
-        (to-graphic (two .memories) (two .done .control .place) sr (two .done .control .view) false row column h k (read ∷ read ∷ read ∷ []))
+        to-graphic m p sr v standby row column h k (readStatus ∷ writeData b ∷ readStatus ∷ writeData c ∷ readStatus ∷ (toGraphic row column ++ (readData ∷ readData ∷ readData ∷ readStatus ∷ [])))
+        ∙ ap (λ (l : List ℕ). 0 ∷ 0 ∷ column ∷ 0 ∷ column ∷ 0 ∷ (column + 1) % 16 ∷ l)
+        (to-graphic (two .memories) (two .done .control .place) sr (two .done .control .view) false row column h k (readData ∷ readData ∷ readData ∷ readStatus ∷ []))
         ∙ rw (first-back (m .graphic) place b c fits, second-back (m .graphic) place b c fits)
 
 -- a state that takes bytes, as the laws above have it
@@ -191,33 +182,33 @@ module _ (e : Seen) (s : State) (frame : List ℕ) (b c : ℕ) (takes : TakesByt
   abbrev own : Place → Bool → Bool → Pairing → State
   own p re sr q = at q entry (s .control .shown) (s .control .function .g) (s .memories) p re sr (s .control .view) (s .control .standby)
 
-  abbrev Replies : List Event → ℕ → State → Type 0
-  Replies address counter x = replies x (thereAndBack address b c) ≡ bothRead address counter b c
+  abbrev Replies : List Event → ℕ → ℕ → State → Type 0
+  Replies address counter next x = replies x (thereAndBack address b c) ≡ bothRead address counter next b c
 
   text-read : (a : ℕ) → s .control .function .re ≡ false → a < 64
-      → repliesTo e s frame (thereAndBack (toText a) b c) ≡ bothRead (toText a) (stepped (entry .id) a) b c
+      → repliesTo e s frame (thereAndBack (toText a) b c) ≡ bothRead (toText a) a (stepped (entry .id) a) b c
   text-read a re h =
       replies-told e (thereAndBack (toText a) b c) s frame (takes .fits)
-      ∙ as-bytes (Replies (toText a) (stepped (entry .id) a)) s (takes .parallel) (takes .wide)
-      (λ q. subst (λ (x : Bool). Replies (toText a) (stepped (entry .id) a) (own (s .control .place) x (s .control .sr) q)) (sym re)
+      ∙ as-bytes (Replies (toText a) a (stepped (entry .id) a)) s (takes .parallel) (takes .wide)
+      (λ q. subst (λ (x : Bool). Replies (toText a) a (stepped (entry .id) a) (own (s .control .place) x (s .control .sr) q)) (sym re)
       (text-back q entry (s .control .shown) (s .control .function .g) (s .memories) (s .control .place) (s .control .sr) (s .control .view) (s .control .standby) b c a h (takes .valid .text)))
 
   glyph-read : (a : ℕ) → s .control .function .re ≡ false → s .control .sr ≡ false → a < 64
-      → repliesTo e s frame (thereAndBack (toGlyph a) b c) ≡ bothRead (toGlyph a) (stepped (entry .id) a) b c
+      → repliesTo e s frame (thereAndBack (toGlyph a) b c) ≡ bothRead (toGlyph a) a (stepped (entry .id) a) b c
   glyph-read a re sr h =
       replies-told e (thereAndBack (toGlyph a) b c) s frame (takes .fits)
-      ∙ as-bytes (Replies (toGlyph a) (stepped (entry .id) a)) s (takes .parallel) (takes .wide)
-      (λ q. subst (λ (x : Bool). Replies (toGlyph a) (stepped (entry .id) a) (own (s .control .place) x (s .control .sr) q)) (sym re)
-      (subst (λ (x : Bool). Replies (toGlyph a) (stepped (entry .id) a) (own (s .control .place) false x q)) (sym sr)
+      ∙ as-bytes (Replies (toGlyph a) a (stepped (entry .id) a)) s (takes .parallel) (takes .wide)
+      (λ q. subst (λ (x : Bool). Replies (toGlyph a) a (stepped (entry .id) a) (own (s .control .place) x (s .control .sr) q)) (sym re)
+      (subst (λ (x : Bool). Replies (toGlyph a) a (stepped (entry .id) a) (own (s .control .place) false x q)) (sym sr)
       (glyph-back q entry (s .control .shown) (s .control .function .g) (s .memories) (s .control .place) (s .control .sr) (s .control .view) (s .control .standby) b c a h (takes .valid .glyph))))
 
   graphic-read : (row column : ℕ) → s .control .function .re ≡ true → s .control .place .waiting ≡ Nothing → row < 64 → column < 16
-      → repliesTo e s frame (thereAndBack (toGraphic row column) b c) ≡ bothRead (toGraphic row column) ((column + 1) % 16) b c
+      → repliesTo e s frame (thereAndBack (toGraphic row column) b c) ≡ bothRead (toGraphic row column) column ((column + 1) % 16) b c
   graphic-read row column re waits h k =
       replies-told e (thereAndBack (toGraphic row column) b c) s frame (takes .fits)
-      ∙ as-bytes (Replies (toGraphic row column) ((column + 1) % 16)) s (takes .parallel) (takes .wide)
-      (λ q. subst (λ (x : Bool). Replies (toGraphic row column) ((column + 1) % 16) (own (s .control .place) x (s .control .sr) q)) (sym re)
-      (subst (λ (w : Waiting). Replies (toGraphic row column) ((column + 1) % 16) (own (withWaiting w (s .control .place)) true (s .control .sr) q)) (sym waits)
+      ∙ as-bytes (Replies (toGraphic row column) column ((column + 1) % 16)) s (takes .parallel) (takes .wide)
+      (λ q. subst (λ (x : Bool). Replies (toGraphic row column) column ((column + 1) % 16) (own (s .control .place) x (s .control .sr) q)) (sym re)
+      (subst (λ (w : Waiting). Replies (toGraphic row column) column ((column + 1) % 16) (own (withWaiting w (s .control .place)) true (s .control .sr) q)) (sym waits)
       (graphic-back q entry (s .control .shown) (s .control .function .g) (s .memories) (s .control .place) (s .control .sr) (s .control .view) (s .control .standby) b c row column h k (takes .valid .graphic))))
 
 pub read-back : ReadBack

@@ -8,7 +8,7 @@ use lib.ListN.{length, replicate}
 use Rattle.base.specs.Painting.{count}
 use Rattle.table.specs.Table.{rowOf, said}
 use Rattle.controller.specs.Memories.{freshMemories}
-use Rattle.controller.specs.State.{fresh}
+use Rattle.controller.specs.State.{freshControl}
 use Rattle.controller.specs.Instructions.{obeyed}
 use Rattle.controller.specs.Data.{stored, found, moved, movedOn}
 use Rattle.controller.specs.Glass.{shownRow, shownWord}
@@ -25,10 +25,10 @@ use Rattle.picture.specs.Picture.{Seen}
 use Rattle.picture.specs.Refusals.{refusalOf}
 use Rattle.repaint.specs.Repaint.{named, countNamed}
 use Rattle.calls.specs.State.{State, state, freshState}
-use Rattle.calls.specs.Calls.{Called, accepted, unlessOther, takenOn, Fits, called, after}
+use Rattle.calls.specs.Calls.{Called, accepted, unlessOther, takenOn, Fits, called, afterCalls}
 use Rattle.demands.specs.Wires.{answers}
 use Rattle.calls.proofs.Kept.{admitted, still-fits}
-use Rattle.demands.specs.Readings.{Row, table, zeroFonts, Observed, observed, AllRead, AllHold, ReadingsHold}
+use Rattle.demands.specs.Readings.{Case, cases, zeroFonts, Observed, observed, AllRead, AllHold, ReadingsHold}
 
 -- what a call leaves but the frame
 pub record Told : Type 0 where
@@ -73,8 +73,8 @@ module _ (e : Seen) where
       (all-told calls (called e s frame call .state) (called e s frame call .frame) (still-fits e s frame call fits))
       ∙ ap (λ (k : Told). k ∷ allTold (k .state) calls) (call-told s frame call fits)
 
-  last-state : (calls : List Event) (s : State) (frame : List ℕ) → Fits e frame → after e s frame calls .state ≡ lastState s calls
-  unfolding after lastState
+  last-state : (calls : List Event) (s : State) (frame : List ℕ) → Fits e frame → afterCalls e s frame calls .state ≡ lastState s calls
+  unfolding afterCalls lastState
   last-state [] s frame fits = refl
   last-state (call ∷ calls) s frame fits =
       last-state calls (called e s frame call .state) (called e s frame call .frame) (still-fits e s frame call fits)
@@ -85,43 +85,43 @@ map-told f [] = refl
 map-told f (k ∷ ks) = ap (λ (more : List _). f (told k) ∷ more) (map-told f ks)
 
 -- what is observed without the frame
-abbrev toldOf : Row → Observed
+abbrev toldOf : Case → Observed
 toldOf r =
-    let all = allTold (freshState (r .parallel)) (r .calls) in
+    let all = allTold (freshState (r .made)) (r .calls) in
     record {
       replies = map (λ k. k .reply) all;
       counts = map (λ k. k .count) all;
       numbers = map (λ k. k .number) all;
-      end = lastState (freshState (r .parallel)) (r .calls);
+      end = lastState (freshState (r .made)) (r .calls);
     }
 
-observed-told : (r : Row) → Fits zeroFonts (replicate (r .frame) 0) → observed r ≡ toldOf r
+observed-told : (r : Case) → Fits zeroFonts (replicate (r .frame) 0) → observed r ≡ toldOf r
 observed-told r fits =
-    let answered = answers zeroFonts (freshState (r .parallel)) (replicate (r .frame) 0) (r .calls) in
-    let all = all-told zeroFonts (r .calls) (freshState (r .parallel)) (replicate (r .frame) 0) fits in
-    let last = last-state zeroFonts (r .calls) (freshState (r .parallel)) (replicate (r .frame) 0) fits in
+    let answered = answers zeroFonts (freshState (r .made)) (replicate (r .frame) 0) (r .calls) in
+    let all = all-told zeroFonts (r .calls) (freshState (r .made)) (replicate (r .frame) 0) fits in
+    let last = last-state zeroFonts (r .calls) (freshState (r .made)) (replicate (r .frame) 0) fits in
     rw (map-told (λ k. k .reply) answered, map-told (λ k. k .count) answered, map-told (λ k. k .number) answered, all, last)
 
 -- a row holds without its frame where the frame fits; where it does not, no frame is painted
-Holds : Row → Type 0
+Holds : Case → Type 0
 Holds r = (Fits zeroFonts (replicate (r .frame) 0) × AllRead (toldOf r) (r .readings)) ⊎ AllRead (observed r) (r .readings)
 
-AllRows : List Row → Type 0
+AllRows : List Case → Type 0
 AllRows [] = Unit {0}
 AllRows (r ∷ rows) = Holds r × AllRows rows
 
-holds : (r : Row) → Holds r → AllRead (observed r) (r .readings)
+holds : (r : Case) → Holds r → AllRead (observed r) (r .readings)
 unfolding Holds
 holds r (inl h) = subst (λ (o : Observed). AllRead o (r .readings)) (sym (observed-told r (h .0))) (h .1)
 holds r (inr h) = h
 
-all-hold : (rows : List Row) → AllRows rows → AllHold rows
+all-hold : (rows : List Case) → AllRows rows → AllHold rows
 unfolding AllRows AllHold
 all-hold [] h = tt
 all-hold (r ∷ rows) h = (holds r (h .0), all-hold rows (h .1))
 
-rows-hold : AllRows table
-unfolding AllRows Holds AllRead table allTold lastState tells answers called takenBy byWidth performed carriedOut executed written readOut statusRead obeyed said rowOf stored found moved movedOn instructionNames writeNames readNames covers inCell shownRow shownWord named countNamed count refusalOf fresh freshMemories freshState bitsOf heard counted afterHeader headerBit bodyBit completed numberOf
+rows-hold : AllRows cases
+unfolding AllRows Holds AllRead cases allTold lastState tells answers called takenBy byWidth performed carriedOut executed written readOut statusRead obeyed said rowOf stored found moved movedOn instructionNames writeNames readNames covers inCell shownRow shownWord named countNamed count refusalOf freshControl freshMemories freshState bitsOf heard counted afterHeader headerBit bodyBit completed numberOf
 rows-hold = (
   inl (refl, (refl, tt)),
   (
@@ -167,4 +167,4 @@ rows-hold = (
 )
 
 pub readings-hold : ReadingsHold
-readings-hold = all-hold table rows-hold
+readings-hold = all-hold cases rows-hold

@@ -19,7 +19,7 @@ use Rattle.links.specs.Items.{highestFirst}
 use Rattle.picture.specs.Picture.{Seen}
 use Rattle.picture.specs.Refusals.{refusalOf}
 use Rattle.calls.specs.State.{State, freshState}
-use Rattle.calls.specs.Calls.{Called, unlessOther, Fits, called, Stands, after}
+use Rattle.calls.specs.Calls.{Called, unlessOther, Fits, called, Stands, afterCalls}
 use Rattle.calls.proofs.Kept.{admitted, still-fits}
 use Rattle.demands.specs.Wires.{answers, numbersOf}
 use Rattle.printed.specs.Text.{RecordAnswer, recordAnswer, line, lines, longestLine, hasRoom}
@@ -45,8 +45,8 @@ standsAt s frame = record { state = s; frame = frame }
 module _ (e : Seen) where
   in-turn-does :
       (reply : ℕ) (s : State) (frame : List ℕ) (calls : List Event)
-      → after e s frame calls ≡ standsAt (calledOn e reply s frame calls .state) (calledOn e reply s frame calls .frame)
-  unfolding after calledOn
+      → afterCalls e s frame calls ≡ standsAt (calledOn e reply s frame calls .state) (calledOn e reply s frame calls .frame)
+  unfolding afterCalls calledOn
   in-turn-does reply s frame [] = refl
   in-turn-does reply s frame (call ∷ calls) = in-turn-does _ _ _ calls
 
@@ -85,7 +85,7 @@ module _ (e : Seen) (r : Recorded) (s : State) (frame : List ℕ) where
   pub record-answers : carried .number ≡ 0 → answerFrom (r .kind) carried ≡ answerOf e s frame r
   record-answers z = rw (in-turn z, in-turn-reply e s frame (callsOf r), in-turn-count e 0 s frame (callsOf r))
 
-  pub record-does : carried .number ≡ 0 → after e s frame (callsOf r) ≡ standsAt (carried .state) (carried .frame)
+  pub record-does : carried .number ≡ 0 → afterCalls e s frame (callsOf r) ≡ standsAt (carried .state) (carried .frame)
   record-does z = rw (in-turn z) (in-turn-does e 0 s frame (callsOf r))
 
 -- with frame and fonts that fit, a record is refused where its first call is of the other link, and with 5
@@ -191,14 +191,14 @@ module _ (e : Seen) (last : ℕ) where
     accepted :
         numbersOf e s frame (callsOfAll (take (length (r .answers)) rs))
         ≡ replicate (length (callsOfAll (take (length (r .answers)) rs))) 0
-    stands : standsAt (r .ending .state) (r .ending .frame) ≡ after e s frame (callsOfAll (take (length (r .answers)) rs))
+    stands : standsAt (r .ending .state) (r .ending .frame) ≡ afterCalls e s frame (callsOfAll (take (length (r .answers)) rs))
     answers : r .answers ≡ answersOf e s frame (take (length (r .answers)) rs)
 
   records-obey :
       (room : Room) (rs : List Recorded) (s : State) (frame : List ℕ) (n : ℕ)
       → Fits e frame
       → Obeys room n rs s frame (recordsReplayed e last room rs s frame n)
-  unfolding recordsReplayed after answers answersOf flatten
+  unfolding recordsReplayed afterCalls answers answersOf flatten
   records-obey room [] s frame n fits = record { stops = behindAll refl refl refl; accepted = refl; stands = refl; answers = refl }
   records-obey room (r ∷ rs) s frame n fits =
       let k = carried e r s frame in
@@ -224,7 +224,7 @@ module _ (e : Seen) (last : ℕ) where
             ∙ sym (zeros-append (callsOf r) more);
         stands =
             on .stands
-            ∙ ap (λ (x : Stands). after e (x .state) (x .frame) more) (sym does)
+            ∙ ap (λ (x : Stands). afterCalls e (x .state) (x .frame) more) (sym does)
             ∙ sym (after-append e (callsOf r) more s frame);
         answers =
             ap (λ (l : List RecordAnswer). answerFrom (r .kind) k ∷ l) (on .answers)

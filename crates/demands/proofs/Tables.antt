@@ -19,7 +19,7 @@ use Rattle.capture.specs.Kinds.{kindOf}
 use Rattle.capture.specs.Kinds as kinds
 use Rattle.capture.specs.Record as records
 use Rattle.capture.proofs.ByKind.{by-kind}
-use Rattle.demands.specs.Demand1.{GoodFullFont, TableSays, frameLength, halfFontLength, fullFontLength, otherLink, accepted, OneNumber, OneAnswer}
+use Rattle.demands.specs.Demand1.{GoodFullFont, TableSays, frameLength, halfFontLength, fullFontLength, otherLink, allGood, OneNumber, OneAnswer}
 use Rattle.demands.specs.Demand1 as demands
 use Rattle.demands.specs.Demand1.{SenderSays, SendRefuses, Marked, Allowed, RecordSays}
 
@@ -52,7 +52,7 @@ module _ (e : Seen) (frame : List ℕ) (other : Bool) where
       (λ b. let h = eqb-true (length (e .half)) 2048 (not-false (eqb (length (e .half)) 2048) b) in
       either-told Says (not (eqb (length (e .full) % 32) 0) || ltb 267264 (length (e .full)))
       (λ t. fullFontLength f h (λ g. true≢false (sym t ∙ good-full e g)))
-      (λ d. either-told (TableSays e frame other) other (otherLink f h (full-good e d)) (accepted f h (full-good e d)))))
+      (λ d. either-told (TableSays e frame other) other (otherLink f h (full-good e d)) (allGood f h (full-good e d)))))
 
   pub table-number : (n : ℕ) → TableSays e frame other n → n ≡ tableNumber
   unfolding refusalOf
@@ -65,7 +65,7 @@ module _ (e : Seen) (frame : List ℕ) (other : Bool) where
         by-test (not (eqb (length (e .full) % 32) 0) || ltb 267264 (length (e .full))) (λ t. t) (λ d. absurd (g (full-good e d))),
       )
   table-number n (otherLink f h g o) = rw (eq-eqb (length frame) 1024 f, eq-eqb (length (e .half)) 2048 h, good-full e g, o)
-  table-number n (accepted f h g o) = rw (eq-eqb (length frame) 1024 f, eq-eqb (length (e .half)) 2048 h, good-full e g, o)
+  table-number n (allGood f h g o) = rw (eq-eqb (length frame) 1024 f, eq-eqb (length (e .half)) 2048 h, good-full e g, o)
 
   pub table-once : OneNumber (TableSays e frame other)
   table-once m n x y = table-number m x ∙ sym (table-number n y)
@@ -76,13 +76,13 @@ module _ (register : Bool) (byte : ℕ) (buffer : List ℕ) where
   send-refuses =
       by-test (ltb (length buffer) 3)
       (λ t. record { says = rw t (demands.bufferLength (ltb-true (length buffer) 3 t)); keeps = λ h. rw t })
-      (λ t. record { says = rw t (demands.accepted (ltb-false (length buffer) 3 t)); keeps = λ h. absurd (h (rw t)) })
+      (λ t. record { says = rw t (demands.roomEnough (ltb-false (length buffer) 3 t)); keeps = λ h. absurd (h (rw t)) })
 
 pub send-once : (buffer : List ℕ) → OneNumber (SenderSays buffer)
 send-once buffer m n (demands.bufferLength a) (demands.bufferLength b) = refl
-send-once buffer m n (demands.bufferLength a) (demands.accepted b) = absurd (omega arith)
-send-once buffer m n (demands.accepted a) (demands.bufferLength b) = absurd (omega arith)
-send-once buffer m n (demands.accepted a) (demands.accepted b) = refl
+send-once buffer m n (demands.bufferLength a) (demands.roomEnough b) = absurd (omega arith)
+send-once buffer m n (demands.roomEnough a) (demands.bufferLength b) = absurd (omega arith)
+send-once buffer m n (demands.roomEnough a) (demands.roomEnough b) = refl
 
 -- the values that a kind takes, as a test and in words
 allowed-is : (kind value : ℕ) → kinds.allowed (kindOf kind) value ≡ true → Allowed kind value

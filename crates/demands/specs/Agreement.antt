@@ -9,21 +9,21 @@ use Rattle.events.specs.declared.Event.{Event}
 use Rattle.links.specs.declared.Link.{Link}
 use Rattle.links.specs.declared.Sync.the-variants.{Lost}
 use Rattle.links.specs.Items.{WholeWrite, Item, Way, serial, wires, idleOn, resting, syncAfter, Alike}
-use Rattle.links.specs.Connector.{Outcome, Comes, otherLink, comes, eventAt, KeepsDl}
+use Rattle.links.specs.Connector.{Came, Comes, elsewhere, comes, eventAt, KeepsDl}
 use Rattle.picture.specs.Picture.{Seen}
 use Rattle.calls.specs.State.{State}
-use Rattle.calls.specs.Calls.{Called, refused, Fits, called, after}
-use Rattle.demands.specs.Wires.{numbersOf, countsOf, Board, boardOf, board, given, onLink, standing, items, withDl, HasWidth, SetsWidth}
+use Rattle.calls.specs.Calls.{Called, refused, Fits, called, afterCalls}
+use Rattle.demands.specs.Wires.{numbersOf, countsOf, Board, boardOf, board, given, itemCounts, atLast, sumsOf, onLink, standing, items, withDl, HasWidth, SetsWidth}
 
 -- an accepted call leaves this board on its link, with its frame, and answers with this reply
-pub record Does (k : Called) (o : Outcome Board) : Type 0 where
+pub record Does (k : Called) (o : Came Board) : Type 0 where
   pub state : k .state ≡ onLink (o .at .state) (o .at .link)
   pub frame : k .frame ≡ o .at .state .frame
   pub number : k .number ≡ 0
   pub reply : k .reply ≡ o .reply
 
-abbrev pub DoesBy : Called → State → List ℕ → Comes (Outcome Board) → Type 0
-DoesBy k s frame otherLink = k ≡ refused s frame 5
+abbrev pub DoesBy : Called → State → List ℕ → Comes (Came Board) → Type 0
+DoesBy k s frame elsewhere = k ≡ refused s frame 5
 DoesBy k s frame (comes o) = Does k o
 
 -- 0. `board` is the panel: each call, a read too, does what the links' connector does with its event. So what holds of any controller
@@ -37,11 +37,13 @@ CallIsConnected =
 -- the calls that carry these items are received as the items given
 pub record ReceivedAsGiven (e : Seen) (way : Way) (s : State) (frame : List ℕ) (list : List Item) : Type 0 where
   -- they leave the memories, the controls and the frame that doing the items leaves, and nothing half received
-  pub stands : after e s frame (wires way list) ≡ standing (given e s frame list) (resting way (syncAfter Lost list))
+  pub stands : afterCalls e s frame (wires way list) ≡ standing (given e s frame list) (resting way (syncAfter Lost list))
   -- every call is accepted
   pub accepted : numbersOf e s frame (wires way list) ≡ replicate (length (wires way list)) 0
-  -- and their counts, but for zeros, are those of the items, in order
-  pub counts : countsOf e s frame (wires way list) ≡ given e s frame list .counts
+  -- of each item the last call has the item's count, and the others 0
+  pub counts : countsOf e s frame (wires way list) ≡ atLast way list (itemCounts e (boardOf s frame) list)
+  -- so the sum of its calls' counts is the item's count
+  pub sums : sumsOf e way s frame list ≡ itemCounts e (boardOf s frame) list
 
 -- 1. Any number of the sender's writes, begun on an idle serial link with chip select high, is received as the bytes given.
 abbrev pub SentIsReceived : Type 0
@@ -65,14 +67,14 @@ pub record SameButLinkAndDl (s t : State) : Type 0 where
   pub memories : s .memories ≡ t .memories
   pub controls : withDl true (s .control) ≡ withDl true (t .control)
 
--- two panels, each with its calls, and lent the same frame
-pub record Agree (e : Seen) (s t : State) (frame : List ℕ) (calls others : List Event) : Type 0 where
+-- two panels, lent the same frame, and each with its list over its way
+pub record Agree (e : Seen) (way other : Way) (s t : State) (frame : List ℕ) (list others : List Item) : Type 0 where
   -- at the end all but link and DL is equal
-  pub states : SameButLinkAndDl (after e s frame calls .state) (after e t frame others .state)
+  pub states : SameButLinkAndDl (afterCalls e s frame (wires way list) .state) (afterCalls e t frame (wires other others) .state)
   -- the frames are equal
-  pub frames : after e s frame calls .frame ≡ after e t frame others .frame
-  -- and so are the counts, but for zeros, in order
-  pub counts : countsOf e s frame calls ≡ countsOf e t frame others
+  pub frames : afterCalls e s frame (wires way list) .frame ≡ afterCalls e t frame (wires other others) .frame
+  -- and so are, for each write, the sums of its calls' counts
+  pub sums : sumsOf e way s frame list ≡ sumsOf e other t frame others
 
 -- 2. The same state over all links: begin equal apart from link and DL, links idle; the lists are equal except bit 4 of function
 -- sets, which keeps each link's DL. Any two of the three ways agree; half bytes with anything in bits 3..0.
@@ -86,7 +88,7 @@ LinksAgree =
     → Alike list others
     → KeepsDl (board e) way (boardOf s frame) list
     → KeepsDl (board e) other (boardOf t frame) others
-    → Agree e s t frame (wires way list) (wires other others)
+    → Agree e way other s t frame list others
 
 -- 3. A list of writes keeps the link's DL where the panel begins with it and bit 4 of every function set is that DL.
 abbrev pub FunctionSetsKeepDl : Type 0

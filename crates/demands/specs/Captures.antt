@@ -5,7 +5,7 @@ use Rattle.events.specs.declared.Event.{Event}
 use Rattle.capture.specs.Capture.{Recorded}
 use Rattle.picture.specs.Picture.{Seen}
 use Rattle.calls.specs.State.{State}
-use Rattle.calls.specs.Calls.{Called, after}
+use Rattle.calls.specs.Calls.{Called, afterCalls}
 use Rattle.demands.specs.Wires.{answers}
 use Rattle.printed.specs.Text.{RecordAnswer, recordAnswer}
 use Rattle.playback.specs.Records.{recordEvents}
@@ -38,4 +38,4 @@ answerOf e s frame r =
 unfoldable pub answersOf : Seen → State → List ℕ → List Recorded → List RecordAnswer
 answersOf e s frame [] = []
 answersOf e s frame (r ∷ rs) =
-    answerOf e s frame r ∷ answersOf e (after e s frame (callsOf r) .state) (after e s frame (callsOf r) .frame) rs
+    answerOf e s frame r ∷ answersOf e (afterCalls e s frame (callsOf r) .state) (afterCalls e s frame (callsOf r) .frame) rs

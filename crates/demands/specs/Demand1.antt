@@ -17,7 +17,7 @@ use Rattle.links.specs.Sender.{sent, leaving}
 use Rattle.picture.specs.Picture.{Seen}
 use Rattle.picture.specs.Refusals.{drawn, leaves}
 use Rattle.calls.specs.State.{State}
-use Rattle.calls.specs.Calls.{called, refused, after}
+use Rattle.calls.specs.Calls.{called, refused, afterCalls}
 use Rattle.demands.specs.Wires.{numbersOf}
 use Rattle.capture.specs.declared.Answer.{Answer}
 use Rattle.capture.specs.declared.Answer.the-variants.{Record, Short, WrongMark, WrongKind, WrongValue, End}
@@ -46,7 +46,7 @@ pub data TableSays (e : Seen) (frame : List ℕ) (other : Bool) : ℕ → Type 0
   halfFontLength : GoodFrame frame → (GoodHalfFont e → ⊥) → TableSays e frame other 2
   fullFontLength : GoodFrame frame → GoodHalfFont e → (GoodFullFont e → ⊥) → TableSays e frame other 3
   otherLink : GoodFrame frame → GoodHalfFont e → GoodFullFont e → other ≡ true → TableSays e frame other 5
-  accepted : GoodFrame frame → GoodHalfFont e → GoodFullFont e → other ≡ false → TableSays e frame other 0
+  allGood : GoodFrame frame → GoodHalfFont e → GoodFullFont e → other ≡ false → TableSays e frame other 0
 
 -- transfers are of the parallel link, serial bits and select-low of the serial one; reset is of both
 abbrev pub isSerial : Link → Bool
@@ -77,7 +77,7 @@ pub record DrawRefuses (e : Seen) (m : Memories) (c : Control) (frame : List ℕ
 -- the sender: 4 where its buffer is under 3 bytes
 pub data SenderSays (buffer : List ℕ) : ℕ → Type 0 where
   bufferLength : length buffer < 3 → SenderSays buffer 4
-  accepted : 3 ≤ length buffer → SenderSays buffer 0
+  roomEnough : 3 ≤ length buffer → SenderSays buffer 0
 
 pub record SendRefuses (register : Bool) (byte : ℕ) (buffer : List ℕ) : Type 0 where
   pub says : SenderSays buffer (sent register byte buffer .number)
@@ -155,7 +155,7 @@ pub record ReplayStops (e : Seen) (room : Room) (capture : List ℕ) (s : State)
   pub stands :
       TableSays e frame false 0
       → record { state = r .ending .state; frame = r .ending .frame }
-      ≡ after e s frame (callsOfAll (take (length (r .answers)) (contents capture .records)))
+      ≡ afterCalls e s frame (callsOfAll (take (length (r .answers)) (contents capture .records)))
   -- and the answers are theirs: of each record its kind, its call's reply, and the sum of its calls' counts
   pub answers :
       TableSays e frame false 0

@@ -20,8 +20,13 @@ use Rattle.links.specs.Idle.{idle}
 use Rattle.links.specs.Sender.{threeBytes, leaving, sent}
 use Rattle.picture.specs.Picture.{Seen, pictured}
 use Rattle.picture.specs.Refusals.{leaves, drawn}
+use Rattle.controller.specs.State.{remade}
 use Rattle.calls.specs.State.{State, state, freshState}
 use Rattle.calls.specs.Calls.{Called, Fits, called}
+use Rattle.links.specs.Statements.{HalvesReadWhole}
+use Rattle.demands.specs.Wires.{board}
+use Rattle.demands.specs.Stored.{WordsStored}
+use Rattle.demands.specs.ReadBack.{ReadBack}
 use Rattle.demands.specs.Agreement.{CallIsConnected, SentIsReceived, WritesAreReceived, LinksAgree, FunctionSetsKeepDl}
 use Rattle.panel.specs.declared.Panel.{Panel}
 use Rattle.panel.specs.declared.Outcome.{Outcome}
@@ -74,10 +79,10 @@ abbrev pub RepliesToReads : Type 0
 RepliesToReads =
     (e : Seen) (s : State) (frame : List ℕ) (call : Event) → isRead call ≡ false → called e s frame call .reply ≡ 0
 
--- Reset gives a fresh state, with its pin.
+-- Reset gives a fresh state, of what the state keeps and the pin.
 abbrev pub ResetIsFresh : Type 0
 ResetIsFresh =
-    (e : Seen) (s : State) (frame : List ℕ) (pin : Pin) → Fits e frame → called e s frame (Reset pin) .state ≡ freshState (pin .parallel)
+    (e : Seen) (s : State) (frame : List ℕ) (pin : Pin) → Fits e frame → called e s frame (Reset pin) .state ≡ freshState (remade (s .control) pin)
 
 -- Chip select low, on a serial link, leaves all but the link, and the link idle.
 abbrev pub SelectLowIdles : Type 0
@@ -108,6 +113,10 @@ pub record Demand2 : Type 0 where
   pub resets : ResetIsFresh
   pub selectLow : SelectLowIdles
   pub draws : DrawnIsPicture
+  -- the two bytes of a word are stored where document 01 says, over every way, and read back; by half bytes as by bytes
+  pub stores : WordsStored
+  pub readsBack : ReadBack
+  pub readsHalves : (e : Seen) → HalvesReadWhole (board e)
   -- what the sender writes is received as the bytes given; and so are writes over the other links
   pub sends : SendsThreeBytes
   pub receives : SentIsReceived

@@ -7,7 +7,7 @@ use Prim.Native.Nat.{ℕ, _≤_, _<_}
 use mathlib.Core.Bool.{Bool, true, false, _||_}
 use mathlib.Core.List.{List, [], _∷_}
 use mathlib.Core.Path.{_≡_}
-use lib.ListN.{getD}
+use lib.ListN.{length, getD}
 use Rattle.base.specs.Choice.{if_then_else_}
 use Rattle.base.specs.Painting.{count}
 use Rattle.controller.specs.Transfers.{Acted, performed}
@@ -18,8 +18,9 @@ use Rattle.table.specs.declared.Target.the-variants.{Glyph, Graphic}
 use Rattle.events.specs.declared.Deed.the-variants.{Whole}
 use Rattle.picture.specs.Picture.{Seen, pictured}
 use Rattle.repaint.specs.Repaint.{named}
+use Rattle.events.specs.declared.Made.{Made}
 use Rattle.calls.specs.State.{State, freshState, Valid}
-use Rattle.calls.specs.Calls.{takenOn, reaching, Fits, called, after}
+use Rattle.calls.specs.Calls.{takenOn, reaching, Fits, called, afterCalls}
 use Rattle.demands.specs.Wires.{isData}
 
 -- the picture of a state
@@ -45,7 +46,7 @@ abbrev pub PictureStands : Type 0
 PictureStands =
     (e : Seen) (s : State) (calls : List Event)
     → Valid s
-    → after e s (pictureOf e s) calls .frame ≡ pictureOf e (after e s (pictureOf e s) calls .state)
+    → afterCalls e s (pictureOf e s) calls .frame ≡ pictureOf e (afterCalls e s (pictureOf e s) calls .state)
 
 -- on any frame, the bytes that were named are the picture's, and no other byte is altered
 abbrev pub NamedBytesShown : Type 0
@@ -54,8 +55,12 @@ NamedBytesShown =
     → Valid s
     → Fits e frame
     → i < 1024
-    → getD (after e s frame calls .frame) i 0
-    ≡ (if everNamed e s frame calls i then getD (pictureOf e (after e s frame calls .state)) i 0 else getD frame i 0)
+    → getD (afterCalls e s frame calls .frame) i 0
+    ≡ (if everNamed e s frame calls i then getD (pictureOf e (afterCalls e s frame calls .state)) i 0 else getD frame i 0)
+
+-- and the frame keeps its length
+abbrev pub KeepsLength : Type 0
+KeepsLength = (e : Seen) (s : State) (frame : List ℕ) (calls : List Event) → length (afterCalls e s frame calls .frame) ≡ length frame
 
 -- the reported number is the number of bytes named
 abbrev pub CountIsNumber : Type 0
@@ -73,7 +78,7 @@ AtMost64 =
     → s .control .entry .s ≡ false
     → called e s frame call .count ≤ 64
 
--- a glyph write names at most 32, and a graphic write one
+-- a glyph write names at most 32, and a graphic write at most one, whatever S is
 abbrev pub GlyphAtMost32 : Type 0
 GlyphAtMost32 =
     (e : Seen) (s : State) (frame : List ℕ) (call : Event) (byte : ℕ)
@@ -90,14 +95,15 @@ GraphicAtMost1 =
 
 -- a fresh panel is valid, and every call hands on a valid state
 abbrev pub FreshIsValid : Type 0
-FreshIsValid = (parallel : Bool) → Valid (freshState parallel)
+FreshIsValid = (made : Made) → Valid (freshState made)
 
 abbrev pub StaysValid : Type 0
-StaysValid = (e : Seen) (s : State) (frame : List ℕ) (calls : List Event) → Valid s → Valid (after e s frame calls .state)
+StaysValid = (e : Seen) (s : State) (frame : List ℕ) (calls : List Event) → Valid s → Valid (afterCalls e s frame calls .state)
 
 pub record Demand3 : Type 0 where
   pub stands : PictureStands
   pub shown : NamedBytesShown
+  pub lengths : KeepsLength
   pub counts : CountIsNumber
   pub bounded : AtMost64
   pub glyphBounded : GlyphAtMost32

@@ -2,8 +2,9 @@ pub mod Wires
 pub mod Agreement
 pub mod Captures
 pub mod Demand1
+pub mod Readings
+pub mod Stored
+pub mod ReadBack
 pub mod Demand2
 pub mod Demand3
-pub mod Readings
-pub mod ReadBack
 pub mod Tight

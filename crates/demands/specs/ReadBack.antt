@@ -13,7 +13,7 @@ use Rattle.calls.specs.State.{State, Valid}
 use Rattle.calls.specs.Calls.{Fits}
 use Rattle.demands.specs.Wires.{answers}
 use Rattle.demands.specs.Demand1.{isSerial}
-use Rattle.demands.specs.Readings.{instruct, write, status, read}
+use Rattle.demands.specs.Readings.{instruct, writeData, readStatus, readData}
 
 -- what calls reply, in their order
 abbrev pub repliesTo : Seen → State → List ℕ → List Event → List ℕ
@@ -29,13 +29,18 @@ toGlyph a = instruct (0x40 + a) ∷ []
 abbrev pub toGraphic : ℕ → ℕ → List Event
 toGraphic row column = instruct (0x80 + row) ∷ instruct (0x80 + column) ∷ []
 
--- there: the address, two data writes, status; and back: the address, and three data reads
+-- there: the address, and two data writes; and back: the address, and three data reads; status after each address, byte and word
 abbrev pub thereAndBack : List Event → ℕ → ℕ → List Event
-thereAndBack address b c = address ++ (write b ∷ write c ∷ status ∷ (address ++ (read ∷ read ∷ read ∷ [])))
+thereAndBack address b c =
+    address
+    ++ (readStatus ∷ writeData b ∷ readStatus ∷ writeData c ∷ readStatus ∷ (address ++ (readData ∷ readData ∷ readData ∷ readStatus ∷ [])))
 
--- instructions and writes reply 0, status the counter; of the reads the first, which is a dummy, 0, and the others the two bytes
-abbrev pub bothRead : List Event → ℕ → ℕ → ℕ → List ℕ
-bothRead address counter b c = replicate (length address) 0 ++ (0 ∷ 0 ∷ counter ∷ (replicate (length address) 0 ++ (0 ∷ b ∷ c ∷ [])))
+-- instructions and writes reply 0, and status the counter: at the word, and stepped once it is complete; of the reads the first, which is
+-- a dummy, replies 0, and the others the two bytes
+abbrev pub bothRead : List Event → ℕ → ℕ → ℕ → ℕ → List ℕ
+bothRead address counter next b c =
+    replicate (length address) 0
+    ++ (counter ∷ 0 ∷ counter ∷ 0 ∷ next ∷ (replicate (length address) 0 ++ (0 ∷ b ∷ c ∷ next ∷ [])))
 
 -- a valid state on the parallel link with DL = 1, and frame and fonts that fit
 pub record TakesBytes (e : Seen) (s : State) (frame : List ℕ) : Type 0 where
@@ -51,7 +56,7 @@ pub record ReadBack : Type 0 where
       → TakesBytes e s frame
       → s .control .function .re ≡ false
       → a < 64
-      → repliesTo e s frame (thereAndBack (toText a) b c) ≡ bothRead (toText a) (stepped (s .control .entry .id) a) b c
+      → repliesTo e s frame (thereAndBack (toText a) b c) ≡ bothRead (toText a) a (stepped (s .control .entry .id) a) b c
   -- glyph memory: with RE = 0 and SR = 0
   pub glyph :
       (e : Seen) (s : State) (frame : List ℕ) (a b c : ℕ)
@@ -59,7 +64,7 @@ pub record ReadBack : Type 0 where
       → s .control .function .re ≡ false
       → s .control .sr ≡ false
       → a < 64
-      → repliesTo e s frame (thereAndBack (toGlyph a) b c) ≡ bothRead (toGlyph a) (stepped (s .control .entry .id) a) b c
+      → repliesTo e s frame (thereAndBack (toGlyph a) b c) ≡ bothRead (toGlyph a) a (stepped (s .control .entry .id) a) b c
   -- graphic memory: with RE = 1, where no row waits for its column; the counter steps to the right
   pub graphic :
       (e : Seen) (s : State) (frame : List ℕ) (row column b c : ℕ)
@@ -68,4 +73,4 @@ pub record ReadBack : Type 0 where
       → s .control .place .waiting ≡ Nothing
       → row < 64
       → column < 16
-      → repliesTo e s frame (thereAndBack (toGraphic row column) b c) ≡ bothRead (toGraphic row column) ((column + 1) % 16) b c
+      → repliesTo e s frame (thereAndBack (toGraphic row column) b c) ≡ bothRead (toGraphic row column) column ((column + 1) % 16) b c

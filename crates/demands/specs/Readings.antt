@@ -14,26 +14,27 @@ use Rattle.links.specs.Items.{bitsOf}
 use Rattle.glyph.specs.declared.Code.the-variants.{Number}
 use Rattle.glyph.specs.Numbering.{numberOf}
 use Rattle.picture.specs.Picture.{Seen}
+use Rattle.events.specs.declared.Made.{Made}
 use Rattle.calls.specs.State.{State, freshState}
-use Rattle.calls.specs.Calls.{after}
+use Rattle.calls.specs.Calls.{afterCalls}
 use Rattle.demands.specs.Wires.{answers}
 
 -- the calls as the table writes them
 abbrev pub instruct : ℕ → Event
 instruct byte = Transfer (Instruct byte)
 
-abbrev pub write : ℕ → Event
-write byte = Transfer (Write byte)
+abbrev pub writeData : ℕ → Event
+writeData byte = Transfer (Write byte)
 
-abbrev pub status : Event
-status = Transfer Status
+abbrev pub readStatus : Event
+readStatus = Transfer Status
 
-abbrev pub read : Event
-read = Transfer Read
+abbrev pub readData : Event
+readData = Transfer Read
 
 -- serial bytes, bit by bit with chip select high
-abbrev pub bytes : List ℕ → List Event
-bytes bs = map Bit (bitsOf bs)
+abbrev pub serialBytes : List ℕ → List Event
+serialBytes bs = map Bit (bitsOf bs)
 
 -- what is read off: of all calls in their order the replies, the counts or the refusal numbers; at the end a word of text or graphic
 -- memory, RE and G, or that the memories are as fresh; or the number of a glyph's code
@@ -47,43 +48,43 @@ pub data Reading : Type 0 where
   nothingStored : Reading
   glyphNumber : ℕ → ℕ → ℕ → Reading
 
--- a row: its case, the link that the panel is made with, the frame's length, the calls, and the readings
-pub record Row : Type 0 where
-  pub case : ℕ
-  pub parallel : Bool
+-- a case: its number, what the panel is made with, the frame's length, the calls, and the readings
+pub record Case : Type 0 where
+  pub number : ℕ
+  pub made : Made
   pub frame : ℕ
   pub calls : List Event
   pub readings : List Reading
 
-abbrev pub row : ℕ → List Event → List Reading → Row
-row case calls readings = record { case = case; parallel = true; frame = 1024; calls = calls; readings = readings }
+abbrev pub inCase : ℕ → List Event → List Reading → Case
+inCase number calls readings = record { number = number; made = record { parallel = true }; frame = 1024; calls = calls; readings = readings }
 
-abbrev pub serialRow : ℕ → List Event → List Reading → Row
-serialRow case calls readings = record { case = case; parallel = false; frame = 1024; calls = calls; readings = readings }
+abbrev pub inSerialCase : ℕ → List Event → List Reading → Case
+inSerialCase number calls readings = record { number = number; made = record { parallel = false }; frame = 1024; calls = calls; readings = readings }
 
-abbrev pub framed : ℕ → ℕ → List Event → List Reading → Row
-framed case length calls readings = record { case = case; parallel = true; frame = length; calls = calls; readings = readings }
+abbrev pub inFramedCase : ℕ → ℕ → List Event → List Reading → Case
+inFramedCase number length calls readings = record { number = number; made = record { parallel = true }; frame = length; calls = calls; readings = readings }
 
-unfoldable pub table : List Row
-table =
-    row 1 (status ∷ []) (replies (0x00 ∷ []) ∷ [])
-    ∷ row 2 (instruct 0x85 ∷ status ∷ []) (replies (0 ∷ 0x05 ∷ []) ∷ [])
-    ∷ row 3 (instruct 0x80 ∷ write 0x2D ∷ write 0x37 ∷ status ∷ [])
+unfoldable pub cases : List Case
+cases =
+    inCase 1 (readStatus ∷ []) (replies (0x00 ∷ []) ∷ [])
+    ∷ inCase 2 (instruct 0x85 ∷ readStatus ∷ []) (replies (0 ∷ 0x05 ∷ []) ∷ [])
+    ∷ inCase 3 (instruct 0x80 ∷ writeData 0x2D ∷ writeData 0x37 ∷ readStatus ∷ [])
     (textWord 0 0x2D37 ∷ replies (0 ∷ 0 ∷ 0 ∷ 0x01 ∷ []) ∷ counts (32 ∷ 32 ∷ 64 ∷ 0 ∷ []) ∷ [])
-    ∷ row 4 (instruct 0x80 ∷ write 0x2D ∷ write 0x37 ∷ status ∷ instruct 0x80 ∷ read ∷ read ∷ read ∷ [])
+    ∷ inCase 4 (instruct 0x80 ∷ writeData 0x2D ∷ writeData 0x37 ∷ readStatus ∷ instruct 0x80 ∷ readData ∷ readData ∷ readData ∷ [])
     (replies (0 ∷ 0 ∷ 0 ∷ 0x01 ∷ 0 ∷ 0x00 ∷ 0x2D ∷ 0x37 ∷ []) ∷ [])
-    ∷ row 5 (instruct 0xBF ∷ write 0x2D ∷ write 0x37 ∷ status ∷ [])
+    ∷ inCase 5 (instruct 0xBF ∷ writeData 0x2D ∷ writeData 0x37 ∷ readStatus ∷ [])
     (replies (0 ∷ 0 ∷ 0 ∷ 0x00 ∷ []) ∷ counts (32 ∷ 0 ∷ 32 ∷ 0 ∷ []) ∷ [])
-    ∷ row 6 (instruct 0x04 ∷ instruct 0x80 ∷ write 0x2D ∷ write 0x37 ∷ status ∷ []) (replies (0 ∷ 0 ∷ 0 ∷ 0 ∷ 0x3F ∷ []) ∷ [])
-    ∷ row 7 (instruct 0x36 ∷ []) (reAndG true false ∷ [])
-    ∷ row 7 (instruct 0x36 ∷ instruct 0x36 ∷ []) (reAndG true true ∷ [])
-    ∷ row 8 (instruct 0x34 ∷ instruct 0x36 ∷ instruct 0x83 ∷ instruct 0x8F ∷ write 0xAA ∷ write 0x55 ∷ status ∷ [])
+    ∷ inCase 6 (instruct 0x04 ∷ instruct 0x80 ∷ writeData 0x2D ∷ writeData 0x37 ∷ readStatus ∷ []) (replies (0 ∷ 0 ∷ 0 ∷ 0 ∷ 0x3F ∷ []) ∷ [])
+    ∷ inCase 7 (instruct 0x36 ∷ []) (reAndG true false ∷ [])
+    ∷ inCase 7 (instruct 0x36 ∷ instruct 0x36 ∷ []) (reAndG true true ∷ [])
+    ∷ inCase 8 (instruct 0x34 ∷ instruct 0x36 ∷ instruct 0x83 ∷ instruct 0x8F ∷ writeData 0xAA ∷ writeData 0x55 ∷ readStatus ∷ [])
     (graphicWord 3 15 0xAA55 ∷ replies (0 ∷ 0 ∷ 0 ∷ 0 ∷ 0 ∷ 0 ∷ 0x00 ∷ []) ∷ [])
-    ∷ row 9 [] (glyphNumber 0xA1 0xA0 0 ∷ glyphNumber 0xF7 0xFF 8351 ∷ [])
-    ∷ framed 10 1023 (status ∷ []) (numbers (1 ∷ []) ∷ [])
-    ∷ framed 10 1025 (status ∷ []) (numbers (1 ∷ []) ∷ [])
-    ∷ serialRow 11 (bytes (0xFA ∷ 0x20 ∷ 0xD0 ∷ [])) (textWord 0 0x2D20 ∷ [])
-    ∷ serialRow 12 (bytes (0xFA ∷ 0x20 ∷ 0xD1 ∷ [])) (nothingStored ∷ [])
+    ∷ inCase 9 [] (glyphNumber 0xA1 0xA0 0 ∷ glyphNumber 0xF7 0xFF 8351 ∷ [])
+    ∷ inFramedCase 10 1023 (readStatus ∷ []) (numbers (1 ∷ []) ∷ [])
+    ∷ inFramedCase 10 1025 (readStatus ∷ []) (numbers (1 ∷ []) ∷ [])
+    ∷ inSerialCase 11 (serialBytes (0xFA ∷ 0x20 ∷ 0xD0 ∷ [])) (textWord 0 0x2D20 ∷ [])
+    ∷ inSerialCase 12 (serialBytes (0xFA ∷ 0x20 ∷ 0xD1 ∷ [])) (nothingStored ∷ [])
     ∷ []
 
 -- seen with a zero half font, an empty full font and phase 0; each row's frame is zero too
@@ -97,14 +98,14 @@ pub record Observed : Type 0 where
   pub numbers : List ℕ
   pub end : State
 
-abbrev pub observed : Row → Observed
+abbrev pub observed : Case → Observed
 observed r =
-    let answered = answers zeroFonts (freshState (r .parallel)) (replicate (r .frame) 0) (r .calls) in
+    let answered = answers zeroFonts (freshState (r .made)) (replicate (r .frame) 0) (r .calls) in
     record {
       replies = map (λ k. k .reply) answered;
       counts = map (λ k. k .count) answered;
       numbers = map (λ k. k .number) answered;
-      end = after zeroFonts (freshState (r .parallel)) (replicate (r .frame) 0) (r .calls) .state;
+      end = afterCalls zeroFonts (freshState (r .made)) (replicate (r .frame) 0) (r .calls) .state;
     }
 
 -- a word of a memory, of its two halves
@@ -126,9 +127,9 @@ unfoldable pub AllRead : Observed → List Reading → Type 0
 AllRead o [] = Unit {0}
 AllRead o (reading ∷ readings) = Reads o reading × AllRead o readings
 
-unfoldable pub AllHold : List Row → Type 0
+unfoldable pub AllHold : List Case → Type 0
 AllHold [] = Unit {0}
-AllHold (r ∷ rows) = AllRead (observed r) (r .readings) × AllHold rows
+AllHold (c ∷ more) = AllRead (observed c) (c .readings) × AllHold more
 
 abbrev pub ReadingsHold : Type 0
-ReadingsHold = AllHold table
+ReadingsHold = AllHold cases

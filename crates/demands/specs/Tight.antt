@@ -14,6 +14,7 @@ use Rattle.picture.specs.Refusals as refusals
 use Rattle.picture.specs.Refusals.{Drawn, drawn}
 use Rattle.events.specs.declared.Event.{Event}
 use Rattle.calls.specs.declared.Answer as lent
+use Rattle.events.specs.declared.Made.{Made}
 use Rattle.calls.specs.State.{State, freshState}
 use Rattle.calls.specs.Calls.{Called, called, left}
 use Rattle.panel.specs.declared.Panel.{Panel}
@@ -44,13 +45,17 @@ pub record Contract : Type 1 where
 abbrev pub Tight : Contract → Type 0
 Tight k = (i : k .Input) (x y : k .Outcome) → k .leaves x ≡ k .means i → k .leaves y ≡ k .means i → x ≡ y
 
+-- a call that leaves nothing but its answer
+abbrev pub answering : {I O : Type 0} → (I → O) → Contract
+answering {I} {O} means = record { Input = I; Outcome = O; Left = O; leaves = λ x. x; means = means }
+
 -- an outcome with a buffer as the call left it
 pub record With (A : Type 0) : Type 0 where
   pub result : A
   pub buffer : List ℕ
 
 -- what a call of the panel is given: fonts and phase, the state, the frame, and the call with its own argument
-pub record Given (S : Type 0) : Type 0 where
+pub record Calling (S : Type 0) : Type 0 where
   pub seen : Seen
   pub state : S
   pub frame : List ℕ
@@ -67,6 +72,17 @@ pub record Sending : Type 0 where
   pub register : Bool
   pub byte : ℕ
   pub buffer : List ℕ
+
+-- `send`, and the same for other languages
+abbrev pub sends : Contract
+sends =
+    record {
+      Input = Sending;
+      Outcome = With ℕ;
+      Left = Sent;
+      leaves = λ x. sender.leaving (x .result) (x .buffer);
+      means = λ i. sent (i .register) (i .byte) (i .buffer);
+    }
 
 -- what a call on lent memories leaves
 pub record LeftLent : Type 0 where
@@ -117,7 +133,7 @@ pub record LeftTold : Type 0 where
   pub text : List ℕ
 
 -- what `put_last` is given
-pub record PuttingLast : Type 0 where
+pub record LastLine : Type 0 where
   pub buffer : List ℕ
   pub place : ℕ
   pub number : ℕ
@@ -125,10 +141,10 @@ pub record PuttingLast : Type 0 where
 -- the public calls whose outcome holds no new reference
 pub data PublicCall : Type 0 where
   fresh : PublicCall
-  -- transfer, bit, select_low and reset
+  -- transfer, bit, select_low and reset, each with its own event
   call : PublicCall
   draw : PublicCall
-  -- the same on lent memories
+  -- the same four on lent memories
   lentCall : PublicCall
   send : PublicCall
   read : PublicCall
@@ -149,10 +165,10 @@ pub data PublicCall : Type 0 where
   pbm : PublicCall
 
 abbrev pub contractOf : PublicCall → Contract
-contractOf fresh = record { Input = Bool; Outcome = Panel; Left = State; leaves = stateOf; means = freshState }
+contractOf fresh = record { Input = Made; Outcome = Panel; Left = State; leaves = stateOf; means = freshState }
 contractOf call =
     record {
-      Input = Given Panel;
+      Input = Calling Panel;
       Outcome = With panel.Outcome;
       Left = Called;
       leaves = λ x. handed (x .result) (x .buffer);
@@ -168,27 +184,18 @@ contractOf draw =
     }
 contractOf lentCall =
     record {
-      Input = Given State;
+      Input = Calling State;
       Outcome = LeftLent;
       Left = Called;
       leaves = λ x. left (x .answer) (x .memories) (x .frame);
       means = λ i. called (i .seen) (i .state) (i .frame) (i .call);
     }
-contractOf send =
-    record {
-      Input = Sending;
-      Outcome = With ℕ;
-      Left = Sent;
-      leaves = λ x. sender.leaving (x .result) (x .buffer);
-      means = λ i. sent (i .register) (i .byte) (i .buffer);
-    }
-contractOf read = record { Input = List ℕ; Outcome = Answer; Left = Answer; leaves = λ r. r; means = readFirst }
-contractOf recordAt =
-    record { Input = At (List ℕ); Outcome = Step; Left = Step; leaves = λ r. r; means = λ i. stepAt (i .capture) (i .at) }
-contractOf answerNumber = record { Input = Answer; Outcome = ℕ; Left = ℕ; leaves = λ r. r; means = number }
-contractOf readerStep = record { Input = Reader; Outcome = Step; Left = Step; leaves = λ r. r; means = reader.readerStep }
-contractOf readerOver =
-    record { Input = At (RefT (List ℕ)); Outcome = Reader; Left = Reader; leaves = λ r. r; means = λ i. reader.over (i .capture) (i .at) }
+contractOf send = sends
+contractOf read = answering readFirst
+contractOf recordAt = answering (λ (i : At (List ℕ)). stepAt (i .capture) (i .at))
+contractOf answerNumber = answering number
+contractOf readerStep = answering reader.readerStep
+contractOf readerOver = answering (λ (i : At (RefT (List ℕ))). reader.over (i .capture) (i .at))
 contractOf replay =
     record {
       Input = Replaying Panel;
@@ -207,7 +214,7 @@ contractOf transcribe =
     }
 contractOf putLast =
     record {
-      Input = PuttingLast;
+      Input = LastLine;
       Outcome = With ℕ;
       Left = lines.Begun;
       leaves = λ x. lines.begunAs (x .result) (x .buffer);
@@ -221,14 +228,7 @@ contractOf exportedDraw =
       leaves = λ x. refusals.leaves (x .result) (x .buffer);
       means = λ i. drawn (i .seen) (i .memories) (unpacked (i .control)) (i .frame);
     }
-contractOf exportedSend =
-    record {
-      Input = Sending;
-      Outcome = With ℕ;
-      Left = Sent;
-      leaves = λ x. sender.leaving (x .result) (x .buffer);
-      means = λ i. sent (i .register) (i .byte) (i .buffer);
-    }
+contractOf exportedSend = sends
 contractOf exportedReplay =
     record {
       Input = Exported;
@@ -237,6 +237,6 @@ contractOf exportedReplay =
       leaves = λ x. report (x .number) (x .frame) (x .state) (x .last);
       means = λ i. freshReplay (i .parallel) (i .seen) (i .capture) (i .frame) (i .state) (i .last);
     }
-contractOf braille = record { Input = List ℕ; Outcome = List ℕ; Left = List ℕ; leaves = λ r. r; means = brailleOf.braille }
-contractOf plain = record { Input = List ℕ; Outcome = List ℕ; Left = List ℕ; leaves = λ r. r; means = plainOf.plain }
-contractOf pbm = record { Input = List ℕ; Outcome = List ℕ; Left = List ℕ; leaves = λ r. r; means = pbmOf.pbm }
+contractOf braille = answering brailleOf.braille
+contractOf plain = answering plainOf.plain
+contractOf pbm = answering pbmOf.pbm

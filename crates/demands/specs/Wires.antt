@@ -1,12 +1,11 @@
 -- Document 01, "Links": the panel as the controller at the end of its link, and what a list of calls answers.
 use Prim.{Unit}
-use Prim.Native.Nat.{ℕ, _≤_, _<_}
+use Prim.Native.Nat.{ℕ, _+_, _-_, _≤_, _<_}
 use mathlib.Core.Bool.{Bool, true, false}
-use mathlib.Core.List.{List, [], _∷_, _++_, map, flatten}
+use mathlib.Core.List.{List, [], _∷_, _++_, map}
 use mathlib.Core.Path.{_≡_}
-use lib.Dec.{eqb}
+use lib.ListN.{length, take, drop, replicate}
 use Rattle.base.specs.Bits.{bit}
-use Rattle.base.specs.Choice.{if_then_else_}
 use Rattle.controller.specs.declared.Control.{Control}
 use Rattle.controller.specs.Memories.{Memories}
 use Rattle.controller.specs.Instructions.{withFunction}
@@ -15,8 +14,8 @@ use Rattle.events.specs.declared.Event.{Event}
 use Rattle.links.specs.declared.Link.{Link}
 use Rattle.events.specs.declared.Transfer.{Transfer}
 use Rattle.events.specs.declared.Transfer.the-variants.{Instruct, Write, Status, Read}
-use Rattle.links.specs.Items.{WholeWrite, Item, write, Way, bytes, halves, serial}
-use Rattle.links.specs.Connector.{Answered, Controller, At, does}
+use Rattle.links.specs.Items.{WholeWrite, Item, write, deed, Way, wholeBytes, halves, serial, wires}
+use Rattle.links.specs.Connector.{Performed, Controller, does}
 use Rattle.picture.specs.Picture.{Seen, fontsOf, lookOf}
 use Rattle.repaint.specs.Repaint.{repainted, countNamed}
 use Rattle.calls.specs.State.{State, state}
@@ -31,49 +30,75 @@ answers e s frame (event ∷ events) =
 abbrev pub numbersOf : Seen → State → List ℕ → List Event → List ℕ
 numbersOf e s frame events = map (λ k. k .number) (answers e s frame events)
 
--- a count, unless it is 0
-abbrev pub unless0 : ℕ → List ℕ
-unless0 count = if eqb count 0 then [] else count ∷ []
-
--- the counts that are not 0, in order
 abbrev pub countsOf : Seen → State → List ℕ → List Event → List ℕ
-countsOf e s frame events = flatten (map (λ k. unless0 (k .count)) (answers e s frame events))
+countsOf e s frame events = map (λ k. k .count) (answers e s frame events)
 
--- a panel without its link: the memories, the controls, the frame, and the counts so far that are not 0
+-- a panel without its link: the memories, the controls and the frame
 pub record Board : Type 0 where
   pub memories : Memories
   pub control : Control
   pub frame : List ℕ
-  pub counts : List ℕ
 
 -- before any call
 abbrev pub boardOf : State → List ℕ → Board
-boardOf s frame = record { memories = s .memories; control = s .control; frame = frame; counts = [] }
+boardOf s frame = record { memories = s .memories; control = s .control; frame = frame }
 
--- a deed was done: the bytes that it names are repainted, and counted
+-- a deed was done: how many bytes it names
+abbrev pub countOf : Acted → ℕ
+countOf a = countNamed (a .done .control .view) (a .memories .text) (a .done .region)
+
+-- and these are repainted
 abbrev pub boardAfter : Seen → Board → Acted → Board
 boardAfter e b a =
     record {
       memories = a .memories;
       control = a .done .control;
       frame = repainted (fontsOf e) (a .memories) (lookOf (e .phase) (a .done .control)) (a .done .region) (b .frame);
-      counts = b .counts ++ unless0 (countNamed (a .done .control .view) (a .memories .text) (a .done .region));
     }
 
-abbrev pub answeredBy : Seen → Board → Acted → Answered Board
-answeredBy e b a = record { state = boardAfter e b a; answer = a .done .reply }
+abbrev pub performedBy : Seen → Board → Acted → Performed Board
+performedBy e b a = record { state = boardAfter e b a; answer = a .done .reply }
 
 -- the panel as the controller at the end of any link
 abbrev pub board : Seen → Controller Board
 board e =
     record {
-      perform = λ b d. answeredBy e b (performed (b .memories) (b .control) d);
+      perform = λ b d. performedBy e b (performed (b .memories) (b .control) d);
       dl = λ b. b .control .function .dl;
     }
 
 -- the items themselves, done in order
 abbrev pub given : Seen → State → List ℕ → List Item → Board
 given e s frame items = does (board e) (boardOf s frame) items
+
+-- and what each of them counts
+unfoldable pub itemCounts : Seen → Board → List Item → List ℕ
+itemCounts e b [] = []
+itemCounts e b (item ∷ items) =
+    countOf (performed (b .memories) (b .control) (deed item)) ∷ itemCounts e (board e .perform b (deed item) .state) items
+
+-- how many calls carry an item: a write is one byte transfer, two half-byte transfers, or 24 serial bits
+abbrev pub callsFor : Way → Item → ℕ
+callsFor way item = length (wires way (item ∷ []))
+
+-- the counts of the calls that carry items with these counts: of each item the last call has the count, and the others 0
+unfoldable pub atLast : Way → List Item → List ℕ → List ℕ
+atLast way [] counts = []
+atLast way (item ∷ items) [] = []
+atLast way (item ∷ items) (count ∷ counts) = replicate (callsFor way item - 1) 0 ++ (count ∷ atLast way items counts)
+
+-- the counts of such calls, item by item
+unfoldable pub byItem : Way → List Item → List ℕ → List (List ℕ)
+byItem way [] counts = []
+byItem way (item ∷ items) counts = take (callsFor way item) counts ∷ byItem way items (drop (callsFor way item) counts)
+
+unfoldable pub sum : List ℕ → ℕ
+sum [] = 0
+sum (n ∷ ns) = n + sum ns
+
+-- for each item the sum of its calls' counts
+abbrev pub sumsOf : Seen → Way → State → List ℕ → List Item → List ℕ
+sumsOf e way s frame items = map sum (byItem way items (countsOf e s frame (wires way items)))
 
 -- a board on a link, and with its frame
 abbrev pub onLink : Board → Link → State
@@ -92,7 +117,7 @@ withDl dl c = withFunction (record { dl = dl; re = c .function .re; g = c .funct
 
 -- the DL that a way's link works with: 1 for bytes, 0 for half bytes, either for serial
 abbrev pub HasWidth : Way → Control → Type 0
-HasWidth bytes c = c .function .dl ≡ true
+HasWidth wholeBytes c = c .function .dl ≡ true
 HasWidth (halves low) c = c .function .dl ≡ false
 HasWidth serial c = Unit {0}
 
@@ -103,7 +128,7 @@ SetsDl dl (w ∷ writes) = (w .register ≡ false → 0x20 ≤ w .byte → w .by
 
 -- bit 4 of function sets keeps the link's DL
 abbrev pub SetsWidth : Way → List WholeWrite → Type 0
-SetsWidth bytes writes = SetsDl true writes
+SetsWidth wholeBytes writes = SetsDl true writes
 SetsWidth (halves low) writes = SetsDl false writes
 SetsWidth serial writes = Unit {0}
 

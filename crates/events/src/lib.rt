@@ -9,6 +9,11 @@ pub enum Transfer {
     Read,
 }
 
+// What a panel is made with.
+pub struct Made {
+    pub parallel: bool,
+}
+
 // The interface pin, which reset takes.
 pub struct Pin {
     pub parallel: bool,

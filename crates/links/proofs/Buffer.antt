@@ -4,9 +4,6 @@ use mathlib.Core.Path.{_≡_, refl}
 use mathlib.Core.List.{List, [], _∷_}
 use lib.ListN.{length, set, drop}
 use native.Mathlib.Omega.{arith}
-use borrow.Author.Tests.{le-ltb}
-use Rattle.links.specs.Sender.{sent}
-use Rattle.links.specs.Statements.{SendLeavesThree}
 
 pub set-first-three : (xs : List ℕ) (a b c : ℕ) → 3 ≤ length xs →
     set (set (set xs 0 a) 1 b) 2 c ≡ a ∷ b ∷ c ∷ drop 3 xs
@@ -14,7 +11,3 @@ set-first-three [] a b c h = absurd (omega arith)
 set-first-three (x ∷ []) a b c h = absurd (omega arith)
 set-first-three (x ∷ y ∷ []) a b c h = absurd (omega arith)
 set-first-three (x ∷ y ∷ z ∷ xs) a b c h = refl
-
-pub send-leaves-three : SendLeavesThree
-unfolding sent
-send-leaves-three register byte buffer h = rw (le-ltb (length buffer) 3 h) (refl, refl)

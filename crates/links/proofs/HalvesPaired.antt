@@ -6,12 +6,12 @@ use native.Mathlib.Omega.{arith}
 use Rattle.base.specs.Bits.{bits3-0}
 use Rattle.events.specs.declared.Transfer.the-variants.{Status, Read}
 use Rattle.links.specs.declared.Pairing.the-variants.{Empty, Upper, Lower}
-use Rattle.events.specs.declared.Deed.the-variants.{Whole}
+use Rattle.events.specs.declared.Deed.the-variants.{Nothing, Whole}
 use Rattle.links.specs.declared.Link.the-variants.{Parallel}
-use Rattle.links.specs.Halves.{bits7-4, raised, joined, writing, kept, acts, writeHalf, readHalf, paired, firstReply}
+use Rattle.links.specs.Halves.{bits7-4, raised, joined, writing, reading, kept, acts, writeHalf, readHalf, paired, firstReply}
 use Rattle.links.specs.Taken.{byWidth}
 use Rattle.links.specs.Items.{above}
-use Rattle.links.specs.Connector.{Answered, Controller, Outcome, comes}
+use Rattle.links.specs.Connector.{Performed, Controller, Came, comes}
 use Rattle.links.specs.Statements.{InHalves, SecondHalfActs, HalvesReadWhole}
 
 -- bits 3..0 do not count
@@ -49,19 +49,19 @@ answer-joins answer h = omega arith
 raised-zeros : (half : ℕ) → bits3-0 (raised half) ≡ 0
 raised-zeros half = omega arith
 
-module _ {S : Type 0} (register : Bool) (a : Answered S) (later : S) where
+module _ {S : Type 0} (register : Bool) (a : Performed S) (later : S) where
   -- a read whose answer is known: as one byte, and at its two halves
-  abbrev one : Outcome S
-  one = record { at = record { state = a .state; link = Parallel Empty }; reply = a .answer }
+  abbrev one : Came S
+  one = record { deed = Whole (reading register); at = record { state = a .state; link = Parallel Empty }; reply = a .answer }
 
-  abbrev first : Outcome S
-  first = record { at = record { state = a .state; link = Parallel (Lower register (bits3-0 (a .answer))) }; reply = firstReply (a .answer) }
+  abbrev first : Came S
+  first = record { deed = Whole (reading register); at = record { state = a .state; link = Parallel (Lower register (bits3-0 (a .answer))) }; reply = firstReply (a .answer) }
 
-  abbrev second : Outcome S
-  second = record { at = record { state = later; link = Parallel Empty }; reply = raised (bits3-0 (a .answer)) }
+  abbrev second : Came S
+  second = record { deed = Nothing; at = record { state = later; link = Parallel Empty }; reply = raised (bits3-0 (a .answer)) }
 
-  answer-in-halves : a .answer < 256 → (x : Outcome S) → comes second ≡ comes x → InHalves one first x later
-  answer-in-halves h x e = subst (λ (o : Outcome S). InHalves one first o later) (cc) (record {
+  answer-in-halves : a .answer < 256 → (x : Came S) → comes second ≡ comes x → InHalves one first x later
+  answer-in-halves h x e = let same : second ≡ x = cc in subst (λ (o : Came S). InHalves one first o later) same (record {
     together = answer-joins (a .answer) h;
     zeros = (raised-zeros (bits7-4 (a .answer)), raised-zeros (bits3-0 (a .answer)));
     acts = refl;

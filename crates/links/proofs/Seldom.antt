@@ -17,9 +17,7 @@ use Rattle.links.specs.declared.Receiver.the-variants.{Inside, Outside}
 use Rattle.links.specs.declared.Received.{Received}
 use Rattle.links.specs.declared.Received.the-variants.{Nothing, Byte}
 use Rattle.links.specs.Serial.{counted, afterHeader, headerBit, dataNext, pushed, bodyBit, completed, heard, listened, bytesIn}
-use Rattle.links.specs.Taken.{deedOf}
-use Rattle.links.specs.Connector.{Controller, act, allCarried, Idles}
-use Rattle.links.specs.Statements.{AtMostOneByte, AtMostOneActs}
+use Rattle.links.specs.Statements.{AtMostOneByte}
 
 -- so many bits at least until a byte completes
 abbrev left : Sync → ℕ
@@ -109,19 +107,3 @@ at-most-one-byte r (b ∷ bits) h =
         bytes-from x next bits ≤ 1
     go Nothing next f rest = rest
     go (Byte register byte) next f rest = omega (arith, none-soon bits next (omega arith))
-
-module _ {S : Type 0} (on : Controller S) (idles : Idles on) where
-  none-acts : (xs : List Received) → bytesIn xs ≡ 0 → (s : S) → allCarried on s xs ≡ s
-  unfolding bytesIn
-  none-acts [] h s = refl
-  none-acts (Nothing ∷ xs) h s = rw (idles s) (none-acts xs h s)
-  none-acts (Byte register byte ∷ xs) h s = absurd (omega arith)
-
-  one-acts : (xs : List Received) → bytesIn xs ≤ 1 → (x : Received) × ((s : S) → allCarried on s xs ≡ on .perform s (deedOf x) .state)
-  unfolding bytesIn
-  one-acts [] h = (Nothing, λ s. rw (idles s))
-  one-acts (Nothing ∷ xs) h = let rest = one-acts xs h in (rest .0, λ s. rw (idles s) (rest .1 s))
-  one-acts (Byte register byte ∷ xs) h = (Byte register byte, λ s. none-acts xs (omega arith) (act on s register byte))
-
-pub at-most-one-acts : {S : Type 0} (on : Controller S) → AtMostOneActs on
-at-most-one-acts on idles receiver bits h = one-acts on idles (listened receiver bits .brought) (at-most-one-byte receiver bits h)

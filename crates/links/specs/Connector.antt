@@ -2,85 +2,94 @@
 use Prim.Native.Nat.{ℕ}
 use mathlib.Core.Path.{_≡_}
 use mathlib.Core.Bool.{Bool, true, false}
-use mathlib.Core.List.{List, [], _∷_}
+use mathlib.Core.List.{List, [], _∷_, _++_}
 use Rattle.events.specs.declared.Event.{Event}
 use Rattle.events.specs.declared.Deed.{Deed}
 use Rattle.events.specs.declared.Deed.the-variants.{Nothing, Whole}
 use Rattle.links.specs.declared.Link.{Link}
-use Rattle.links.specs.declared.Rest.{Rest}
 use Rattle.links.specs.declared.Sync.{Sync}
-use Rattle.links.specs.declared.Received.{Received}
 use Rattle.links.specs.declared.Carried.{Carried}
 use Rattle.links.specs.declared.Taken.{Taken}
 use Rattle.links.specs.declared.Taken.the-variants.{OtherLink, Carries}
 use Rattle.links.specs.Halves.{writing}
-use Rattle.links.specs.Taken.{deedOf, takenBy, replied}
-use Rattle.links.specs.Items.{Item, deed, Way, bytes, halves, serial, resting}
+use Rattle.links.specs.Taken.{takenBy, replied}
+use Rattle.links.specs.Items.{Item, deed, Way, wholeBytes, halves, serial, resting}
 
 -- the state that a deed leaves, and the byte that a read answers
-pub record Answered (S : Type 0) : Type 0 where
+pub record Performed (S : Type 0) : Type 0 where
   pub state : S
   pub answer : ℕ
 
 -- any controller: what a deed does to it, and its flag DL
 pub record Controller (S : Type 0) : Type 0 where
-  pub perform : S → Deed → Answered S
+  pub perform : S → Deed → Performed S
   pub dl : S → Bool
 
 -- a controller's state, and its link
-pub record At (S : Type 0) : Type 0 where
+pub record Connected (S : Type 0) : Type 0 where
   pub state : S
   pub link : Link
 
--- what an event leaves, and its reply
-pub record Outcome (S : Type 0) : Type 0 where
-  pub at : At S
+-- what comes of an event: what of it reached the controller, what it leaves, and its reply
+pub record Came (S : Type 0) : Type 0 where
+  pub deed : Deed
+  pub at : Connected S
   pub reply : ℕ
 
--- what comes of an event: it is of the other link, or this comes
+-- what comes of events in turn: what of each reached the controller, and what they leave
+pub record CameAll (S : Type 0) : Type 0 where
+  pub deeds : List Deed
+  pub at : Connected S
+
+-- something comes, unless an event is of the other link
 pub data Comes (X : Type 0) : Type 0 where
-  otherLink : Comes X
+  elsewhere : Comes X
   comes : X → Comes X
 
 -- and then
 abbrev pub next : {X Y : Type 0} → Comes X → (X → Comes Y) → Comes Y
-next otherLink then = otherLink
+next elsewhere then = elsewhere
 next (comes x) then = then x
 
+-- a run after these deeds
+unfoldable pub preceded : {S : Type 0} → List Deed → Comes (CameAll S) → Comes (CameAll S)
+preceded deeds elsewhere = elsewhere
+preceded deeds (comes r) = comes (record { deeds = deeds ++ r .deeds; at = r .at })
+
 -- a state on the link of a way, with nothing half received
-abbrev pub rests : {S : Type 0} → Way → S → Sync → At S
+abbrev pub rests : {S : Type 0} → Way → S → Sync → Connected S
 rests way s sync = record { state = s; link = resting way sync }
 
 module _ {S : Type 0} (on : Controller S) where
-  abbrev pub answered : Rest → Answered S → Outcome S
-  answered rest a =
-      record { at = record { state = a .state; link = replied rest (a .answer) .link }; reply = replied rest (a .answer) .reply }
+  -- the answer goes back
+  abbrev pub goesBack : Carried → Performed S → Came S
+  goesBack c p =
+      record {
+        deed = c .deed;
+        at = record { state = p .state; link = replied (c .rest) (p .answer) .link };
+        reply = replied (c .rest) (p .answer) .reply;
+      }
 
   -- the deed is done, and the answer goes back
-  abbrev pub carriedAt : S → Carried → Outcome S
-  carriedAt s c = answered (c .rest) (on .perform s (c .deed))
+  abbrev pub carriedAt : S → Carried → Came S
+  carriedAt s c = goesBack c (on .perform s (c .deed))
 
-  abbrev pub takenAt : S → Taken → Comes (Outcome S)
-  takenAt s OtherLink = otherLink
+  abbrev pub takenAt : S → Taken → Comes (Came S)
+  takenAt s OtherLink = elsewhere
   takenAt s (Carries c) = comes (carriedAt s c)
 
   -- one event
-  unfoldable pub eventAt : At S → Event → Comes (Outcome S)
+  unfoldable pub eventAt : Connected S → Event → Comes (Came S)
   eventAt at event = takenAt (at .state) (takenBy (on .dl (at .state)) (at .link) event)
 
   -- events in turn, up to one of the other link
-  unfoldable pub runs : At S → List Event → Comes (At S)
-  runs at [] = comes at
-  runs at (event ∷ events) = next (eventAt at event) (λ o. runs (o .at) events)
+  unfoldable pub runs : Connected S → List Event → Comes (CameAll S)
+  runs at [] = comes (record { deeds = []; at = at })
+  runs at (event ∷ events) = next (eventAt at event) (λ o. preceded (o .deed ∷ []) (runs (o .at) events))
 
   -- the state after a byte written to a register
   abbrev pub act : S → Bool → ℕ → S
   act s register byte = on .perform s (Whole (writing register byte)) .state
-
-  -- all that some bits brought acts, in order
-  abbrev pub allCarried : S → List Received → S
-  allCarried s [] = s
-  allCarried s (x ∷ xs) = allCarried (on .perform s (deedOf x) .state) xs
 
   -- the items themselves: each is done, in order
   unfoldable pub does : S → List Item → S
@@ -94,7 +103,7 @@ module _ {S : Type 0} (on : Controller S) where
 
   -- the items keep each link's DL: 1 for bytes, 0 for half bytes, either for serial
   abbrev pub KeepsDl : Way → S → List Item → Type 0
-  KeepsDl bytes s items = HasDl true s items
+  KeepsDl wholeBytes s items = HasDl true s items
   KeepsDl (halves low) s items = HasDl false s items
   KeepsDl serial s items = Unit {0}
 

@@ -43,8 +43,8 @@ abbrev pub acts : Transfer → Carried
 acts t = record { deed = Whole t; rest = Halved t }
 
 -- a read's second half: nothing acts, this is the reply
-abbrev pub handed : ℕ → Carried
-handed reply = record { deed = Nothing; rest = Handed reply }
+abbrev pub handsOver : ℕ → Carried
+handsOver reply = record { deed = Nothing; rest = Handed reply }
 
 -- a write acts at its second half byte; bits 7..4 count, upper half first
 unfoldable pub writeHalf : Pairing → Bool → ℕ → Carried
@@ -57,7 +57,7 @@ writeHalf (Lower was lower) register value = kept register (bits7-4 value)
 unfoldable pub readHalf : Pairing → Bool → Carried
 readHalf Empty register = acts (reading register)
 readHalf (Upper was upper) register = acts (reading register)
-readHalf (Lower was lower) register = if Bool·beq was register then handed (raised lower) else acts (reading register)
+readHalf (Lower was lower) register = if Bool·beq was register then handsOver (raised lower) else acts (reading register)
 
 -- one half-byte transfer: if the second differs from the first in kind, the first is dropped and the new one is a first
 unfoldable pub paired : Pairing → Transfer → Carried

@@ -3,11 +3,12 @@ use Prim.Native.Nat.{ℕ, _+_, _≤_, _<_}
 use mathlib.Core.Path.{_≡_}
 use mathlib.Core.Bool.{Bool, true, false}
 use mathlib.Core.List.{List, [], _∷_, _++_, map}
+use lib.ListN.{replicate}
 use Rattle.base.specs.Bits.{bit, bits3-0}
 use Rattle.events.specs.declared.Event.{Event}
 use Rattle.events.specs.declared.Event.the-variants.{Transfer, Bit}
 use Rattle.events.specs.declared.Deed.{Deed}
-use Rattle.events.specs.declared.Deed.the-variants.{Whole}
+use Rattle.events.specs.declared.Deed.the-variants.{Nothing, Whole}
 use Rattle.links.specs.declared.Link.{Link}
 use Rattle.links.specs.declared.Link.the-variants.{Parallel, Serial}
 use Rattle.links.specs.declared.Pairing.the-variants.{Empty}
@@ -35,16 +36,16 @@ pub record Beside : Type 0 where
 -- whole writes, with any events beside the wires between them
 pub data Item : Type 0 where
   write : WholeWrite → Item
-  beside : Beside → Item
+  besideWires : Beside → Item
 
 -- what an item is to the controller
 abbrev pub deed : Item → Deed
 deed (write w) = Whole (writing (w .register) (w .byte))
-deed (beside x) = x .deed
+deed (besideWires x) = x .deed
 
 -- the ways that a list of items may come; half bytes with what stands in bits 3..0 of each transfer in turn
 pub data Way : Type 0 where
-  bytes : Way
+  wholeBytes : Way
   halves : (ℕ → ℕ) → Way
   serial : Way
 
@@ -62,16 +63,22 @@ bitsOf (b ∷ more) = highestFirst b ++ bitsOf more
 
 -- a write on the wires: one transfer of its byte; two, upper half first; or the 24 bits of the sender's three bytes
 abbrev pub eventsOf : Way → WholeWrite → List Event
-eventsOf bytes w = Transfer (writing (w .register) (w .byte)) ∷ []
+eventsOf wholeBytes w = Transfer (writing (w .register) (w .byte)) ∷ []
 eventsOf (halves low) w =
     Transfer (writing (w .register) (above (bits7-4 (w .byte)) (low 0)))
     ∷ Transfer (writing (w .register) (above (bits3-0 (w .byte)) (low 1)))
     ∷ []
 eventsOf serial w = map Bit (bitsOf (threeBytes (w .register) (w .byte)))
 
+-- of these events exactly the last acts
+abbrev pub writeDeeds : Way → WholeWrite → List Deed
+writeDeeds wholeBytes w = deed (write w) ∷ []
+writeDeeds (halves low) w = Nothing ∷ deed (write w) ∷ []
+writeDeeds serial w = replicate 23 Nothing ++ (deed (write w) ∷ [])
+
 -- the way as it goes on after a write: the next half bytes have the next bits 3..0
 abbrev pub onward : Way → Way
-onward bytes = bytes
+onward wholeBytes = wholeBytes
 onward (halves low) = halves (λ k. low (k + 2))
 onward serial = serial
 
@@ -79,17 +86,23 @@ onward serial = serial
 unfoldable pub wires : Way → List Item → List Event
 wires way [] = []
 wires way (write w ∷ items) = eventsOf way w ++ wires (onward way) items
-wires way (beside x ∷ items) = x .event ∷ wires way items
+wires way (besideWires x ∷ items) = x .event ∷ wires way items
+
+-- what of each of its events acts
+unfoldable pub wireDeeds : Way → List Item → List Deed
+wireDeeds way [] = []
+wireDeeds way (write w ∷ items) = writeDeeds way w ++ wireDeeds way items
+wireDeeds way (besideWires x ∷ items) = x .deed ∷ wireDeeds way items
 
 -- the link of a way, idle
 abbrev pub idleOn : Way → Link
-idleOn bytes = idle true
+idleOn wholeBytes = idle true
 idleOn (halves low) = idle true
 idleOn serial = idle false
 
 -- a link with nothing half received: no half byte open; outside a header with no run of ones
 abbrev pub resting : Way → Sync → Link
-resting bytes sync = Parallel Empty
+resting wholeBytes sync = Parallel Empty
 resting (halves low) sync = Parallel Empty
 resting serial sync = Serial (Outside 0 sync)
 
@@ -97,7 +110,7 @@ resting serial sync = Serial (Outside 0 sync)
 unfoldable pub syncAfter : Sync → List Item → Sync
 syncAfter sync [] = sync
 syncAfter sync (write w ∷ items) = syncAfter (Body (w .register) 0 0) items
-syncAfter sync (beside x ∷ items) = syncAfter sync items
+syncAfter sync (besideWires x ∷ items) = syncAfter sync items
 
 -- two bytes to a register are equal, or function sets, 20h..3Fh, that differ at most in bit 4
 pub data SameButBit4 : Bool → ℕ → ℕ → Type 0 where
@@ -111,4 +124,4 @@ pub data Alike : List Item → List Item → Type 0 where
   writes : {w v : WholeWrite} {ws vs : List Item} →
       w .register ≡ v .register → SameButBit4 (w .register) (w .byte) (v .byte) →
       Alike ws vs → Alike (write w ∷ ws) (write v ∷ vs)
-  events : {x : Beside} {ws vs : List Item} → Alike ws vs → Alike (beside x ∷ ws) (beside x ∷ vs)
+  events : {x : Beside} {ws vs : List Item} → Alike ws vs → Alike (besideWires x ∷ ws) (besideWires x ∷ vs)

@@ -6,7 +6,7 @@ use Prim.Native.Nat.{ℕ, _≤_, _<_}
 use mathlib.Core.Path.{_≡_}
 use mathlib.Core.Bool.{Bool, true, false}
 use mathlib.Core.List.{List, [], _∷_, _++_}
-use lib.ListN.{length, take, drop, replicate}
+use lib.ListN.{length, replicate}
 use Rattle.base.specs.Bits.{bits3-0}
 use Rattle.links.specs.declared.Pairing.the-variants.{Empty, Upper}
 use Rattle.events.specs.declared.Deed.the-variants.{Whole}
@@ -15,32 +15,24 @@ use Rattle.links.specs.declared.Sync.{Sync}
 use Rattle.links.specs.declared.Sync.the-variants.{Body}
 use Rattle.links.specs.declared.Receiver.{Receiver}
 use Rattle.links.specs.declared.Receiver.the-variants.{Outside}
-use Rattle.links.specs.declared.Received.{Received}
 use Rattle.links.specs.declared.Received.the-variants.{Nothing, Byte}
 use Rattle.links.specs.Halves.{bits7-4, joined, writing, reading, kept, acts, paired}
 use Rattle.links.specs.Serial.{listened, bytesIn}
-use Rattle.links.specs.Sender.{threeBytes, sent}
-use Rattle.links.specs.Taken.{byWidth, transferTaken, deedOf}
-use Rattle.links.specs.Items.{Beside, Item, Way, above, bitsOf, wires, syncAfter, SameButBit4, Alike}
-use Rattle.links.specs.Connector.{Controller, Outcome, comes, rests, carriedAt, takenAt, runs, act, allCarried, does, KeepsDl, Idles}
-
--- 0. What `send` leaves at the front of a buffer with room are the three bytes whose bits are the write on the serial wire;
--- the rest of the buffer is as it was.
-abbrev pub SendLeavesThree : Type 0
-SendLeavesThree =
-    (register : Bool) (byte : ℕ) (buffer : List ℕ) → 3 ≤ length buffer →
-    (take 3 (sent register byte buffer .buffer) ≡ threeBytes register byte)
-    × (drop 3 (sent register byte buffer .buffer) ≡ drop 3 buffer)
+use Rattle.links.specs.Sender.{threeBytes}
+use Rattle.links.specs.Taken.{byWidth, transferTaken}
+use Rattle.links.specs.Items.{Beside, Item, Way, above, bitsOf, wires, wireDeeds, syncAfter, SameButBit4, Alike}
+use Rattle.links.specs.Connector.{Controller, Came, comes, rests, carriedAt, takenAt, runs, act, does, KeepsDl, Idles}
 
 module _ {S : Type 0} (on : Controller S) where
   -- 1. Any number of such writes, heard bit by bit on a serial link with nothing half received and chip select high, act exactly as the
-  -- bytes given, in order, with any events beside the wires between whole writes; no event is refused, and nothing is half received
-  -- then. The same of every way: over bytes, over half bytes with anything in bits 3..0, over serial. A parallel link takes its width
+  -- bytes given, in order, with any events beside the wires between whole writes; no event is refused, of each write's exactly the last acts, and
+  -- nothing is half received then. The same of every way: over bytes, over half bytes with anything in bits 3..0, over serial. A parallel link takes its width
   -- from DL, so there the items must leave DL as that link has it.
   abbrev pub ItemsAct : Type 0
   ItemsAct =
       Idles on → (way : Way) (s : S) (sync : Sync) (items : List Item) → KeepsDl on way s items →
-      runs on (rests way s sync) (wires way items) ≡ comes (rests way (does on s items) (syncAfter sync items))
+      runs on (rests way s sync) (wires way items)
+      ≡ comes (record { deeds = wireDeeds way items; at = rests way (does on s items) (syncAfter sync items) })
 
   module _ (_≈_ : S → S → Type 0) where
     infix 4 _≈_
@@ -56,19 +48,12 @@ module _ {S : Type 0} (on : Controller S) where
     ListsAgree =
         Respected → (s t : S) (items others : List Item) → s ≈ t → Alike items others → does on s items ≈ does on t others
 
--- 3. In any sixteen bits, wherever the receiver stands, at most one byte completes.
+-- 3. In any sixteen bits, wherever the receiver stands, at most one byte completes: eight bits in one record have one count.
 abbrev pub AtMostOneByte : Type 0
 AtMostOneByte = (receiver : Receiver) (bits : List Bool) → length bits ≤ 16 → bytesIn (listened receiver bits .brought) ≤ 1
 
-module _ {S : Type 0} (on : Controller S) where
-  -- So all that they do to a controller is what one byte does, or nothing: eight bits in one record have one count.
-  abbrev pub AtMostOneActs : Type 0
-  AtMostOneActs =
-      Idles on → (receiver : Receiver) (bits : List Bool) → length bits ≤ 16 →
-      (x : Received) × ((s : S) → allCarried on s (listened receiver bits .brought) ≡ on .perform s (deedOf x) .state)
-
 -- the replies and states of a read's two half bytes, beside those of the same read as one byte
-pub record InHalves {S : Type 0} (one first second : Outcome S) (later : S) : Type 0 where
+pub record InHalves {S : Type 0} (one first second : Came S) (later : S) : Type 0 where
   -- together they hand over the same answer
   pub together : joined (bits7-4 (first .reply)) (bits7-4 (second .reply)) ≡ one .reply
   -- each in bits 7..4, zeros below
@@ -83,9 +68,9 @@ module _ {S : Type 0} (on : Controller S) where
   abbrev pub HalvesReadWhole : Type 0
   HalvesReadWhole =
       Idles on → (s later : S) (register : Bool) → on .perform s (Whole (reading register)) .answer < 256 →
-      let one : Outcome S = carriedAt on s (byWidth true Empty (reading register)) in
-      let first : Outcome S = carriedAt on s (byWidth false Empty (reading register)) in
-      (second : Outcome S) → takenAt on later (transferTaken false (first .at .link) (reading register)) ≡ comes second →
+      let one : Came S = carriedAt on s (byWidth true Empty (reading register)) in
+      let first : Came S = carriedAt on s (byWidth false Empty (reading register)) in
+      (second : Came S) → takenAt on later (transferTaken false (first .at .link) (reading register)) ≡ comes second →
       InHalves one first second later
 
 -- 5. Of a write's two half bytes the first is only kept, and exactly the second acts, with the whole byte.

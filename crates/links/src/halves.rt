@@ -6,7 +6,7 @@ use crate::Rest;
 use events::Deed;
 use events::Transfer;
 ghost use mathlib.Core.Path.{_≡_};
-ghost use Rattle.links.specs.Halves.{raised, joined, writing, reading, kept, acts, handed, writeHalf, readHalf, paired};
+ghost use Rattle.links.specs.Halves.{raised, joined, writing, reading, kept, acts, handsOver, writeHalf, readHalf, paired};
 ghost use Rattle.links.specs.Halves.{firstReply, pairingAfter};
 
 // One half-byte transfer, after what is open. Of a write only bits 7..4 count.
@@ -58,7 +58,7 @@ fn read_half(pairing: Pairing, register: bool) -> Carried
             lower,
         } => {
             if was == register {
-                return handed(raised(lower));
+                return hands_over(raised(lower));
             }
             acts(reading(register))
         }
@@ -86,8 +86,8 @@ fn acts(transfer: Transfer) -> Carried
 }
 
 // A read's second half.
-fn handed(reply: u8) -> Carried
-    ensures { λ r. ⌜ r ≡ handed reply ⌝ }
+fn hands_over(reply: u8) -> Carried
+    ensures { λ r. ⌜ r ≡ handsOver reply ⌝ }
 {
     Carried {
         deed: Deed::Nothing,

@@ -14,11 +14,6 @@ pub struct Panel {
     pub link: Link,
 }
 
-// What a panel is made with.
-pub struct Made {
-    pub parallel: bool,
-}
-
 // What a call answers: the next state, the refusal number, the reply and the number of bytes named.
 pub struct Outcome {
     pub panel: Panel,

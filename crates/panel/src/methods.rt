@@ -1,10 +1,10 @@
 // The calls by value: the panel goes in, and the next one is handed on.
-use crate::Made;
 use crate::Outcome;
 use crate::Panel;
 use calls::Answer;
 use controller::Control;
 use events::Event;
+use events::Made;
 use events::Pin;
 use events::Transfer;
 ghost use mathlib.Core.Path.{_≡_};
@@ -38,14 +38,14 @@ fn handed_on(text: [u8; 128], glyph: [u8; 128], graphic: [u8; 2048], answer: Ans
 impl Panel {
     // A panel as it is when it has just been made.
     pub fn fresh(made: Made) -> Panel
-        ensures { λ r. ⌜ stateOf r ≡ freshState (made .parallel) ⌝ }
+        ensures { λ r. ⌜ stateOf r ≡ freshState made ⌝ }
         ensures valid { λ r. ⌜ Valid (stateOf r) ⌝ }
     {
         Panel {
             text: [0x20u8; 128],
             glyph: [0u8; 128],
             graphic: [0u8; 2048],
-            control: Control::fresh(),
+            control: Control::fresh(made),
             link: links::idle(made.parallel),
         }
     }

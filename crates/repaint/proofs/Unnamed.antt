@@ -14,6 +14,7 @@ use Rattle.table.specs.declared.Target.the-variants.{Text, Glyph, Graphic}
 use Rattle.table.specs.declared.Instruction.{Instruction}
 use Rattle.table.specs.declared.Instruction.the-variants.{Ignored, Clear, Home, EntryMode, Display, MoveCursor, MoveDisplay, FunctionSet, GlyphAddress, TextAddress, Standby, SetSr, ToggleReverse, Scroll, GraphicAddress}
 use Rattle.table.specs.Table.{said}
+use Rattle.table.specs.Touches.{touches}
 use Rattle.controller.specs.declared.Waiting.{Waiting}
 use Rattle.controller.specs.declared.Waiting.the-variants as waiting
 use Rattle.controller.specs.declared.Place.{Place}
@@ -29,7 +30,7 @@ use Rattle.controller.specs.State.{InRange, limit}
 use Rattle.controller.specs.Instructions.{withPlace, withView, withWaiting, pointed, begun, graphicAddressed, stepped, obeyed, cleared, modes}
 use Rattle.controller.specs.Data.{isText, stored, nextCounter, counterAfter, moved, completes, shifts, movedOn, dummyRead}
 use Rattle.controller.specs.Glass.{shownWord}
-use Rattle.controller.specs.Named.{counterCell, bothCells, endsStandby, graphicAddressNames, listed, instructionNames, textNames, writeByTarget, writeNames, readNames, inCell, inSomeCell, covers}
+use Rattle.controller.specs.Named.{counterCell, bothCells, addressNames, touchNames, instructionNames, textNames, writeByTarget, writeNames, readNames, inCell, inSomeCell, covers}
 use Rattle.controller.specs.Transfers.{executed, written, readOut}
 use Rattle.picture.specs.Picture.{Fonts, lookOf, atCounter, cellByte, graphicByte, byteAt}
 use Rattle.picture.proofs.Parts.{SameParts, equal-parts-equal-bytes}
@@ -111,7 +112,7 @@ module _ (e : Fonts) (phase : Bool) (m : Memories) (c : Control) (row column : �
   -- a graphic address: a row alone moves nothing, its column is an address set
   graphic-relocated :
       (w : Waiting) (a : ℕ)
-      → covers (c .view) (m .text) (if c .standby && true then Whole else graphicAddressNames w (c .place) (graphicAddressed w (c .place) a)) row column ≡ false
+      → covers (c .view) (m .text) (if c .standby && true then Whole else addressNames (graphicAddressed w (c .place) a .waiting) (c .place) (graphicAddressed w (c .place) a)) row column ≡ false
       → byteAt e m (lookOf phase (withPlace (graphicAddressed w (c .place) a) (begun c))) row column ≡ byteAt e m (lookOf phase c) row column
   graphic-relocated waiting.Nothing a u =
       let n = not-whole (c .view) (m .text) row column (c .standby && true) Nothing u in
@@ -133,8 +134,8 @@ module _ (e : Fonts) (phase : Bool) (m : Memories) (c : Control) (row column : �
 
   pub obeyed-unnamed :
       (i : Instruction)
-      → covers (obeyed c i .view) (cleared i (m .text)) (instructionNames c (obeyed c i) i) row column ≡ false
-      → byteAt e (memories (cleared i (m .text)) (m .glyph) (m .graphic)) (lookOf phase (obeyed c i)) row column ≡ byteAt e m (lookOf phase c) row column
+      → covers (obeyed c i .view) (cleared (touches i) (m .text)) (instructionNames c (obeyed c i) (touches i)) row column ≡ false
+      → byteAt e (memories (cleared (touches i) (m .text)) (m .glyph) (m .graphic)) (lookOf phase (obeyed c i)) row column ≡ byteAt e m (lookOf phase c) row column
   unfolding obeyed instructionNames
   obeyed-unnamed Ignored u = refl
   obeyed-unnamed Clear u = all-named _ _ (c .standby && true) u

@@ -1,10 +1,10 @@
 // Replays a capture from standard input, and prints a line for each accepted record and one for the end.
-// What is read and written is no matter of a contract; the lines are those of `transcript`. What fails is said on standard
+// What is read and written is no matter of a contract; the lines are those of `playback`. What fails is said on standard
 // error, where it fails, and is never taken for the end of the capture.
+use events::Made;
 use libc::STDERR_FILENO;
 use libc::STDIN_FILENO;
 use libc::STDOUT_FILENO;
-use panel::Made;
 use panel::Panel;
 use playback::Stop;
 ghost use Prim.Native.Nat.{_+_, _/_, _≤_};
@@ -116,11 +116,14 @@ fn part(panel: Panel, place: usize, frame: &mut [u8; 1024]) -> Came
     }
 }
 
-// The last line.
+// The last line. A program has no exit status: that a record was refused is said on standard error too, for `./run`.
 fn print_last(place: usize, number: u8) {
     let mut text = [0u8; 48];
     let n = printed::put_last(&mut text, place, number);
     print(&text[..n]);
+    if number != 0 {
+        io::write_all(STDERR_FILENO, b"replay: stopped\n");
+    }
 }
 
 // Part after part. A refusal stops the replay also where the read after it failed.

@@ -32,7 +32,8 @@ fn least(a: usize, b: usize) -> usize
     if a < b { a } else { b }
 }
 
-// Reads until the buffer is full or has as much as is wanted, the input ends or a read fails.
+// Reads until the buffer is full or has as much as is wanted, the input ends or a read fails. A record that a failed read cut short is
+// left out: the capture does not end there.
 pub(crate) fn fill(fd: i32, buffer: &mut [u8], most: usize) -> Loaded
     ensures { λ r. ⌜ Counts (r .count) (now (buffer .exit)) ⌝ }
 {
@@ -40,11 +41,17 @@ pub(crate) fn fill(fd: i32, buffer: &mut [u8], most: usize) -> Loaded
     let mut done: usize = 0;
     while done < end {
         let some = read_some(fd, buffer, done, end);
+        if !some.well {
+            return Loaded {
+                count: done - done % 4,
+                well: false,
+            };
+        }
         let n = some.count;
         if n == 0 {
             return Loaded {
                 count: done,
-                well: some.well,
+                well: true,
             };
         }
         done += n;

@@ -1,5 +1,5 @@
 // Replays a capture and shows the glass: in Braille characters, in plain ones, or as a picture file.
-// What is read and written is no matter of a contract; the replay is `transcript`'s and the text `glass`'s.
+// What is read and written is no matter of a contract; the replay is `playback`'s and the text `frame_view`'s.
 use asked::Asked;
 use libc::STDIN_FILENO;
 use libc::STDOUT_FILENO;
@@ -94,9 +94,12 @@ fn show(asked: Asked, fd: i32, file: &[u8]) {
         &full[..n],
         asked.phase,
     );
+    // After a failed read, what was replayed is shown all the same.
     if !ended.well {
         failed(file);
-        return;
+        if ended.records == 0 {
+            return;
+        }
     }
     picture(asked, &frame, ended);
     if ended.number != 0 {

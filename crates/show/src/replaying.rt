@@ -1,6 +1,6 @@
 // A capture of any length, replayed part by part.
 use crate::files::fill;
-use panel::Made;
+use events::Made;
 use panel::Panel;
 ghost use Rattle.calls.specs.State.{Valid};
 ghost use Rattle.panel.specs.Handed.{stateOf};

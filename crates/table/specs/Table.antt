@@ -3,7 +3,7 @@ use Prim.Native.Nat.{ℕ}
 use mathlib.Core.Bool.{Bool}
 use lib.Dec.{ltb}
 use Rattle.base.specs.Choice.{if_then_else_}
-use Rattle.base.specs.Bits.{bit, bits5-0, bits1-0}
+use Rattle.base.specs.Bits.{bit, bits5-0}
 use Rattle.table.specs.declared.Target.{Target}
 use Rattle.table.specs.declared.Target.the-variants.{Text, Glyph, Graphic}
 use Rattle.table.specs.declared.Modes.{Modes}
@@ -69,7 +69,7 @@ abbrev pub table : Modes → Row → ℕ → Columns
 table m 00h b = Ignored ∣ Ignored
 table m 01h b = Clear ∣ Standby
 table m 02h-03h b = Home ∣ SetSr (bit 0 b)
-table m 04h-07h b = EntryMode (bit 1 b) (bit 0 b) ∣ ToggleReverse (bits1-0 b)
+table m 04h-07h b = EntryMode (bit 1 b) (bit 0 b) ∣ ToggleReverse b
 table m 08h-0Fh b = Display (bit 2 b) (bit 1 b) (bit 0 b) ∣ Ignored
 table m 10h-1Fh b = moving (m .target) b ∣ Ignored
 table m 20h-3Fh b = functionSet b ∣ functionSet b

@@ -2,6 +2,7 @@
 ghost use mathlib.Core.Path.{_≡_};
 ghost use Rattle.base.specs.Bits.{bits5-0};
 ghost use Rattle.table.specs.declared.Instruction.the-variants.{GlyphAddress, Scroll};
+ghost use Rattle.table.specs.Touches.{touches};
 ghost use Rattle.table.specs.Table.{said, basicColumn, extendedColumn, moving, functionSet, ifSr0, ifSr1};
 
 // The memory that the address counter speaks of.
@@ -52,6 +53,18 @@ pub enum Instruction {
     GraphicAddress(u8),
 }
 
+// What an instruction touches.
+pub enum Touch {
+    // An ignored code.
+    Nothing,
+    // An address set or a cursor move: the counter's cell, before and after.
+    Counter,
+    // Every other one: all of the glass.
+    All,
+    // Clear: all of the glass, and the text.
+    AllAndText,
+}
+
 // What a byte says in the instruction set that RE chooses.
 pub fn decode(modes: Modes, byte: u8) -> Instruction
     ensures { λ r. ⌜ r ≡ said modes byte ⌝ }
@@ -95,7 +108,7 @@ fn extended(modes: Modes, byte: u8) -> Instruction
         0x00 => Instruction::Ignored,
         0x01 => Instruction::Standby,
         0x02..=0x03 => Instruction::SetSr(byte / 1 % 2 == 1),
-        0x04..=0x07 => Instruction::ToggleReverse(byte % 4),
+        0x04..=0x07 => Instruction::ToggleReverse(byte),
         0x08..=0x0F => Instruction::Ignored,
         0x10..=0x1F => Instruction::Ignored,
         0x20..=0x3F => function_set(byte),
@@ -148,4 +161,31 @@ fn scroll(sr: bool, byte: u8) -> Instruction
         return Instruction::Scroll(byte % 64);
     }
     Instruction::Ignored
+}
+
+// What an instruction touches. Each has its arm, so that a new one has to be decided here.
+pub fn touches(instruction: Instruction) -> Touch
+    ensures { λ r. ⌜ r ≡ touches instruction ⌝ }
+{
+    match instruction {
+        Instruction::Ignored => Touch::Nothing,
+        Instruction::Clear => Touch::AllAndText,
+        Instruction::Home => Touch::All,
+        Instruction::EntryMode { id: _, s: _ } => Touch::All,
+        Instruction::Display {
+            display: _,
+            cursor: _,
+            blink: _,
+        } => Touch::All,
+        Instruction::MoveCursor { right: _ } => Touch::Counter,
+        Instruction::MoveDisplay { right: _ } => Touch::All,
+        Instruction::FunctionSet { dl: _, re: _, g: _ } => Touch::All,
+        Instruction::GlyphAddress(_) => Touch::Counter,
+        Instruction::TextAddress(_) => Touch::Counter,
+        Instruction::Standby => Touch::All,
+        Instruction::SetSr(_) => Touch::All,
+        Instruction::ToggleReverse(_) => Touch::All,
+        Instruction::Scroll(_) => Touch::All,
+        Instruction::GraphicAddress(_) => Touch::Counter,
+    }
 }

@@ -1,12 +1,12 @@
-// Does one thing many times, to be timed from outside; the first argument says what: `value`, a text write with its repaint by the
-// call by value; `lent`, the same on lent memories; `copy`, a copy of the state alone; `draw`, the whole picture.
+// Does one thing many times, to be timed from outside; the first argument says what: `text`, `images` or `graphic`, writes into that
+// memory with their repaint, on lent memories; `value`, the text writes by the call by value; `copy`, a copy of the state alone;
+// `draw`, the whole picture. Before the writes come the few transfers that make the screen.
 // Prints a number that depends on all that was done, so that none of it can be left out.
 use controller::Control;
-use events::Event;
+use events::Made;
 use events::Transfer;
 use libc::STDOUT_FILENO;
 use links::Link;
-use panel::Made;
 use panel::Panel;
 ghost use Prim.Native.Nat.{_<_, _≤_};
 ghost use mathlib.Core.Path.{_≡_};
@@ -17,20 +17,74 @@ ghost use Rattle.panel.specs.Handed.{stateOf};
 
 const TIMES: u32 = 1000000;
 
-fn mixed(sum: u64, with: usize) -> u64 {
-    (sum % 1000003) * 31 % 1000003 + (with as u64) % 1000003
+// Cheap beside what is timed, also on a processor that divides by a loop.
+fn mixed(sum: u32, with: usize) -> u32 {
+    (sum % 65536) * 31 + (with % 65536) as u32
 }
 
-fn by_value() -> u64 {
+fn letter(i: u32) -> Transfer {
+    Transfer::Write(0x21 + (i % 64) as u8)
+}
+
+// Display, cursor and blink on, from address 0.
+fn text_turn(i: u32) -> Transfer {
+    match i {
+        0 => Transfer::Instruct(0x0F),
+        1 => Transfer::Instruct(0x80),
+        _ => letter(i),
+    }
+}
+
+// A high half of 00h and a low half of 00h..0Fh, in turn: each cell shows an image.
+fn image_half(i: u32) -> Transfer {
+    if i % 2 == 0 {
+        return Transfer::Write(0x00);
+    }
+    Transfer::Write((i / 2 % 16) as u8)
+}
+
+// All cells show images, then glyph memory is written from address 0.
+fn images_turn(i: u32) -> Transfer {
+    match i {
+        0 => Transfer::Instruct(0x0F),
+        1 => Transfer::Instruct(0x80),
+        2..=129 => image_half(i),
+        130 => Transfer::Instruct(0x40),
+        _ => letter(i),
+    }
+}
+
+// Graphic on, and its row 3 written over and over.
+fn graphic_turn(i: u32) -> Transfer {
+    match i {
+        0 => Transfer::Instruct(0x0F),
+        1 => Transfer::Instruct(0x34),
+        2 => Transfer::Instruct(0x36),
+        3 => Transfer::Instruct(0x83),
+        4 => Transfer::Instruct(0x80),
+        _ => letter(i),
+    }
+}
+
+// The transfer of turn i.
+fn turn(what: u8, i: u32) -> Transfer {
+    match what {
+        b'i' => images_turn(i),
+        b'g' => graphic_turn(i),
+        _ => text_turn(i),
+    }
+}
+
+fn by_value() -> u32 {
     let mut panel = Panel::fresh(Made { parallel: true });
     let mut frame = [0u8; 1024];
     let half = [0u8; 2048];
     let full = [0u8; 32];
-    let mut sum: u64 = 0;
+    let mut sum: u32 = 0;
     let mut i: u32 = 0;
     while i < TIMES {
-        let byte = (i % 128) as u8;
-        let outcome = panel.transfer(Transfer::Write(byte), &mut frame, &half, &full, false);
+        let given = text_turn(i);
+        let outcome = panel.transfer(given, &mut frame, &half, &full, false);
         let next = outcome.panel;
         panel = next;
         sum = mixed(sum, outcome.count);
@@ -39,26 +93,26 @@ fn by_value() -> u64 {
     sum
 }
 
-fn on_lent() -> u64 {
+fn on_lent(what: u8) -> u32 {
     let mut text = [0x20u8; 128];
     let mut glyph = [0u8; 128];
     let mut graphic = [0u8; 2048];
-    let mut control = Control::fresh();
+    let mut control = Control::fresh(Made { parallel: true });
     let mut link = links::idle(true);
     let mut frame = [0u8; 1024];
     let half = [0u8; 2048];
     let full = [0u8; 32];
-    let mut sum: u64 = 0;
+    let mut sum: u32 = 0;
     let mut i: u32 = 0;
     while i < TIMES {
-        let byte = (i % 128) as u8;
-        let answer = calls::call(
+        let given = turn(what, i);
+        let answer = calls::transfer(
             &mut text,
             &mut glyph,
             &mut graphic,
             control,
             link,
-            Event::Transfer(Transfer::Write(byte)),
+            given,
             &mut frame,
             &half,
             &full,
@@ -81,9 +135,9 @@ fn copied(panel: Panel, i: u32) -> Panel {
     next
 }
 
-fn copies() -> u64 {
+fn copies() -> u32 {
     let mut panel = Panel::fresh(Made { parallel: true });
-    let mut sum: u64 = 0;
+    let mut sum: u32 = 0;
     let mut i: u32 = 0;
     while i < TIMES {
         let next = copied(panel, i);
@@ -94,7 +148,7 @@ fn copies() -> u64 {
     sum
 }
 
-fn draws() -> u64 {
+fn draws() -> u32 {
     let panel = Panel::fresh(Made { parallel: true });
     let mut frame = [0u8; 1024];
     let half = [0u8; 2048];
@@ -104,7 +158,7 @@ fn draws() -> u64 {
     let graphic = panel.graphic;
     let mut control = panel.control;
     control.shown.display = true;
-    let mut sum: u64 = 0;
+    let mut sum: u32 = 0;
     let mut i: u32 = 0;
     while i < TIMES {
         let number = picture::draw::draw(
@@ -129,11 +183,13 @@ fn main() {
     let first = word[0];
     let sum = match first {
         b'v' => by_value(),
-        b'l' => on_lent(),
+        b't' => on_lent(first),
+        b'i' => on_lent(first),
+        b'g' => on_lent(first),
         b'c' => copies(),
         b'd' => draws(),
         _ => 0,
     };
-    io::print_decimal(STDOUT_FILENO, sum);
+    io::print_decimal(STDOUT_FILENO, sum as u64);
     io::write_all(STDOUT_FILENO, b"\n");
 }

@@ -1,17 +1,22 @@
 //! The proved code measured against plain Rust, on the same inputs in one run.
 //!
 //!     bench                        times all of it, and prints tables of ratios
-//!     bench draws|writes|timing|programs    only these
+//!     bench draws|writes|replays|programs    only these
+//!     bench turns text|images|graphic       does a million turns of that and prints a number, as `timing` does
 //!     bench pictures FOLDER        holds the proved pictures to those stored in FOLDER, a line 'ok ..' each
+//!     bench screens FOLDER         stores the screens, each with its picture, and the fonts, as bytes alone
 //!     bench write-pictures FOLDER  stores the pictures that plain Rust draws dot by dot
+mod blocks;
 mod bytewise;
 mod dots;
 mod draws;
+mod in_place;
 mod pictures;
 mod programs;
+mod replays;
 mod screen;
-mod strokes;
 mod timing;
+mod turns;
 mod writes;
 
 use screen::*;
@@ -32,23 +37,28 @@ fn scenes() -> (Fonts, [(&'static str, Screen); 4]) {
 fn main() {
     let words: Vec<String> = std::env::args().skip(1).collect();
     let words: Vec<&str> = words.iter().map(String::as_str).collect();
+    if let ["turns", what] = words[..] {
+        turns::run(what.as_bytes()[0]);
+        return;
+    }
     let (fonts, screens) = scenes();
     let mut passed = true;
     match words[..] {
         [] => {
             draws::measure(&fonts, &screens);
-            writes::measure(&fonts);
-            strokes::measure();
+            writes::measure();
+            replays::measure(&fonts);
             programs::measure();
         }
         ["draws"] => draws::measure(&fonts, &screens),
-        ["writes"] => writes::measure(&fonts),
-        ["timing"] => strokes::measure(),
+        ["writes"] => writes::measure(),
+        ["replays"] => replays::measure(&fonts),
         ["programs"] => programs::measure(),
         ["pictures", folder] => passed = pictures::compare(folder, &fonts, &screens),
+        ["screens", folder] => passed = pictures::raw(folder, &fonts, &screens),
         ["write-pictures", folder] => passed = pictures::write(folder, &fonts, &screens),
         _ => {
-            eprintln!("usage: bench [draws | writes | timing | programs | pictures FOLDER | write-pictures FOLDER]");
+            eprintln!("usage: bench [draws | writes | replays | programs | turns WHAT | screens FOLDER | pictures FOLDER | write-pictures FOLDER]");
             passed = false;
         }
     };

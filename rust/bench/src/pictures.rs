@@ -24,6 +24,35 @@ pub fn write(folder: &str, fonts: &Fonts, screens: &[(&str, Screen)]) -> bool {
     true
 }
 
+/// The screens, each followed by its picture of phase 1, and the fonts: for a program that reads no files.
+pub fn raw(folder: &str, fonts: &Fonts, screens: &[(&str, Screen)]) -> bool {
+    let mut bytes = Vec::new();
+    for (_, screen) in screens {
+        let mut frame = [0u8; 1024];
+        dots::draw(screen, fonts, true, &mut frame);
+        for part in [
+            &screen.text[..],
+            &screen.glyph,
+            &screen.graphic,
+            &screen.control,
+            &frame,
+        ] {
+            bytes.extend(part);
+        }
+    }
+    for (name, bytes) in [
+        ("screens", &bytes),
+        ("half", &fonts.half),
+        ("full", &fonts.full),
+    ] {
+        if let Err(error) = std::fs::write(Path::new(folder).join(name), bytes) {
+            eprintln!("{name}: {error}");
+            return false;
+        }
+    }
+    true
+}
+
 /// Whether the proved drawing, into a frame of other content, gives the stored picture.
 fn same(path: &Path, screen: &Screen, fonts: &Fonts, phase: bool) -> Result<(), String> {
     let stored = std::fs::read(path).map_err(|error| error.to_string())?;

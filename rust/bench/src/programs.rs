@@ -128,7 +128,7 @@ fn against_the_model() -> io::Result<()> {
         "| {} | {} | {:.0} |",
         model.spread(),
         proved.spread(),
-        model.middle() / proved.middle()
+        model.over(&proved)
     );
     Ok(())
 }

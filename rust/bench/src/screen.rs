@@ -1,17 +1,32 @@
 //! A state to draw: the memories, the controls as the boundary packs them, and fonts.
 use proved::{Lent, Memories};
 
-/// The controls' bytes that the drawings here look at; the boundary's `unpacked` has the whole order.
+/// The controls' bytes, in the order in which the boundary packs them.
 pub const TARGET: usize = 0;
 pub const COUNTER: usize = 1;
+pub const ROW: usize = 2;
+pub const LOW: usize = 3;
+pub const DUMMY: usize = 4;
+pub const WAITS: usize = 5;
+pub const WAITING: usize = 6;
+pub const ID: usize = 7;
+pub const S: usize = 8;
 pub const DISPLAY: usize = 9;
 pub const CURSOR: usize = 10;
 pub const BLINK: usize = 11;
+pub const DL: usize = 12;
+pub const RE: usize = 13;
 pub const G: usize = 14;
+pub const SR: usize = 15;
 pub const STANDBY: usize = 16;
 pub const SCROLL: usize = 17;
 pub const SHIFT: usize = 18;
 pub const REVERSED: usize = 19;
+
+/// The targets, as the boundary packs them.
+pub const TEXT: u8 = 0;
+pub const GLYPH: u8 = 1;
+pub const GRAPHIC: u8 = 2;
 
 pub struct Screen {
     pub text: [u8; 128],
@@ -21,6 +36,11 @@ pub struct Screen {
 }
 
 impl Screen {
+    /// Display 0 or standby.
+    pub fn dark(&self) -> bool {
+        self.control[DISPLAY] != 1 || self.control[STANDBY] == 1
+    }
+
     pub fn memories(&self) -> Memories<'_> {
         Memories {
             text: &self.text,

@@ -1,24 +1,31 @@
 //! Batches of calls, timed, with their middle and spread.
 use std::time::Instant;
 
-pub const BATCHES: usize = 101;
+pub const BATCHES: usize = 501;
 
-/// Nanoseconds for one of them, sorted.
+/// Nanoseconds for one of them, in the order in which they were taken.
 pub struct Times(Vec<f64>);
 
 impl Times {
-    pub fn of(mut times: Vec<f64>) -> Times {
-        times.sort_by(f64::total_cmp);
+    pub fn of(times: Vec<f64>) -> Times {
         Times(times)
     }
 
     fn at(&self, hundredth: usize) -> f64 {
-        self.0[(self.0.len() - 1) * hundredth / 100]
+        let mut times = self.0.clone();
+        times.sort_by(f64::total_cmp);
+        times[(times.len() - 1) * hundredth / 100]
     }
 
     /// The times of one of so many equal parts.
     pub fn part(&self, parts: f64) -> Times {
         Times(self.0.iter().map(|time| time / parts).collect())
+    }
+
+    /// How many times as long as another it takes: the middle of the ratios of what was taken one after the other.
+    pub fn over(&self, other: &Times) -> f64 {
+        let pairs = self.0.iter().zip(&other.0);
+        Times(pairs.map(|(one, other)| one / other).collect()).middle()
     }
 
     pub fn middle(&self) -> f64 {

@@ -27,7 +27,7 @@ pub fn run(path: &str) -> bool {
             })
         });
     match different {
-        None => println!("ok difftest: {path}: {}", told(&tally)),
+        None => println!("ok difftest: {path}: {} compared", told(&tally)),
         Some(what) => {
             println!("FAILED difftest: {path}: {what}");
             return false;

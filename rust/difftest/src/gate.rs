@@ -10,24 +10,53 @@ const SEED: u64 = 8;
 fn cases(
     many: u64,
     mut compare: impl FnMut(u64, &mut Tally) -> Result<(), String>,
-) -> Result<Tally, String> {
+) -> Result<String, String> {
     let mut tally = Tally::default();
     for number in 0..many {
         compare(number, &mut tally)?;
     }
-    Ok(tally)
+    Ok(told(&tally))
 }
 
-/// Prints the group's line; answers whether nothing differs.
-fn group(name: &str, compared: Result<Tally, String>) -> bool {
-    match compared {
-        Ok(tally) => println!("ok difftest: {name}: {}", told(&tally)),
-        Err(what) => {
-            println!("FAILED difftest: {name}: {what}");
-            return false;
+/// How much each group compares: the cases are the same every time, so a group that compares less, or nothing, has lost some.
+const PINNED: [(&str, &str); 10] = [
+    ("captures", "136816 records, 140573 whole draws"),
+    (
+        "damaged captures",
+        "6545 records, 738 refusals, 8244 whole draws",
+    ),
+    (
+        "records of any kind",
+        "6547 records, 461 refusals, 8269 whole draws",
+    ),
+    ("buffers that are refused", "400 refusals, 800 whole draws"),
+    (
+        "every instruction in every mode over each link",
+        "69888 records, 69888 whole draws",
+    ),
+    ("states made up, drawn", "20000 whole draws"),
+    ("every text word, drawn", "2048 whole draws"),
+    ("every length of the full font, drawn", "16708 whole draws"),
+    ("printed lines", "57253 printed lines"),
+    ("sender", "4096 calls"),
+];
+
+/// Prints the group's line; answers whether nothing differs, and as much was compared as is pinned.
+fn group(name: &str, compared: Result<String, String>) -> bool {
+    let pinned = PINNED.iter().find(|(group, _)| *group == name);
+    let wrong = match (&compared, pinned) {
+        (Err(what), _) => what.clone(),
+        (Ok(_), None) => "what it compares is not pinned".to_string(),
+        (Ok(told), Some((_, much))) if told != much => {
+            format!("{told} compared, and pinned are {much}")
         }
-    }
-    true
+        (Ok(told), _) => {
+            println!("ok difftest: {name}: {told} compared");
+            return true;
+        }
+    };
+    println!("FAILED difftest: {name}: {wrong}");
+    false
 }
 
 /// What was compared, without what was not.
@@ -43,15 +72,18 @@ pub fn told(tally: &Tally) -> String {
         .filter(|(count, _)| *count > 0)
         .map(|(count, what)| format!("{count} {what}"))
         .collect();
-    parts.join(", ") + " compared"
+    if parts.is_empty() {
+        return "nothing".to_string();
+    }
+    parts.join(", ")
 }
 
 fn whole(
     different: impl FnOnce(&mut Random, &mut Tally) -> Option<String>,
-) -> Result<Tally, String> {
+) -> Result<String, String> {
     let mut tally = Tally::default();
     match different(&mut Random::new(SEED, 0), &mut tally) {
-        None => Ok(tally),
+        None => Ok(told(&tally)),
         Some(what) => Err(what),
     }
 }
@@ -64,7 +96,7 @@ pub fn run() -> bool {
         passed &= group(name, cases(400 * share, random));
     }
     let mut tally = Tally::default();
-    let every = groups::every_instruction(SEED, &mut tally).map(|()| tally);
+    let every = groups::every_instruction(SEED, &mut tally).map(|()| told(&tally));
     passed &= group("every instruction in every mode over each link", every);
     let made_up = |number: u64, tally: &mut Tally| groups::made_up(SEED, number, tally);
     passed &= group("states made up, drawn", cases(20_000, made_up));
@@ -76,12 +108,6 @@ pub fn run() -> bool {
     let lines =
         |number: u64, tally: &mut Tally| groups::lines(SEED, number, 40 << (number % 8), tally);
     passed &= group("printed lines", cases(48, lines));
-    match sender::compare(&mut Random::new(SEED, 0)) {
-        Ok(calls) => println!("ok difftest: sender: {calls} calls compared"),
-        Err(what) => {
-            println!("FAILED difftest: sender: {what}");
-            passed = false;
-        }
-    }
-    passed
+    let calls = sender::compare(&mut Random::new(SEED, 0)).map(|calls| format!("{calls} calls"));
+    passed & group("sender", calls)
 }

@@ -3,6 +3,7 @@
 //!     difftest                       the cases of the gate: a line 'ok ..' for each group
 //!     difftest soak [MANY] [SEED]    random cases until MANY records were compared; 600s is for so many seconds
 //!     difftest file FILE             one capture
+//!     difftest show WORDS..          what `show` should print, from the model (module `shown`)
 //!
 //! It is run at the project's root. A difference is made small and written to target/difftest.
 mod captures;
@@ -21,6 +22,7 @@ mod random;
 mod report;
 mod scenes;
 mod sender;
+mod shown;
 mod soak;
 mod wire;
 
@@ -42,6 +44,7 @@ fn run(words: &[&str]) -> Option<bool> {
         ["soak", many] => Some(soak::run(until(many)?, 1)),
         ["soak", many, seed] => Some(soak::run(until(many)?, seed.parse().ok()?)),
         ["file", path] => Some(file::run(path)),
+        ["show", ref words @ ..] => Some(shown::run(words)),
         _ => None,
     }
 }
@@ -50,7 +53,7 @@ fn main() {
     let words: Vec<String> = std::env::args().skip(1).collect();
     let words: Vec<&str> = words.iter().map(String::as_str).collect();
     let passed = run(&words).unwrap_or_else(|| {
-        eprintln!("usage: difftest [soak [RECORDS | SECONDSs] [SEED] | file FILE]");
+        eprintln!("usage: difftest [soak [RECORDS | SECONDSs] [SEED] | file FILE | show WORDS..]");
         false
     });
     if !passed {

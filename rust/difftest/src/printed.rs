@@ -18,6 +18,8 @@ fn proved_lines(capture: &[u8], parts: &[usize]) -> Result<Vec<u8>, String> {
         .arg("replay")
         .stdin(Stdio::piped())
         .stdout(Stdio::piped())
+        // where it says that it stopped, which its last line says too
+        .stderr(Stdio::null())
         .spawn()
         .map_err(fault)?;
     let mut input = child.stdin.take().expect("standard input is piped");

@@ -45,7 +45,7 @@ pub fn run(until: Until, seed: u64) -> bool {
     while !done(&tally) {
         if let Err(what) = case(seed, number, &mut tally) {
             println!(
-                "FAILED difftest: soak, seed {seed}, case {number}, after {}: {what}",
+                "FAILED difftest: soak, seed {seed}, case {number}, after {} compared: {what}",
                 told(&tally)
             );
             return false;
@@ -62,7 +62,7 @@ pub fn run(until: Until, seed: u64) -> bool {
         }
     }
     println!(
-        "ok difftest: soak, seed {seed}: {} in {number} cases; {} more records replayed on the way; records of kinds 0 to 6: {:?}; {:.0} s",
+        "ok difftest: soak, seed {seed}: {} compared in {number} cases; {} more records replayed on the way; records of kinds 0 to 6: {:?}; {:.0} s",
         told(&tally),
         tally.passed,
         tally.kinds,

@@ -10,10 +10,10 @@ use Rattle.timing.proofs.on_lent.Statement.{statement}
 use Rattle.timing.proofs.on_lent.Tie as tie
 
 abbrev Inv-loop : tie.InvT-loop
-Inv-loop text₀ glyph₀ graphic₀ control₀ link₀ frame₀ half full sum₀ i₀ text glyph graphic control link frame sum i = (i ≤ 1000000) × InRange control × (length frame ≡ 1024)
+Inv-loop what text₀ glyph₀ graphic₀ control₀ link₀ frame₀ half full sum₀ i₀ text glyph graphic control link frame sum i = (i ≤ 1000000) × InRange control × (length frame ≡ 1024)
 
 abbrev μ-loop : tie.MeasureT-loop
-μ-loop text₀ glyph₀ graphic₀ control₀ link₀ frame₀ half full sum₀ i₀ text glyph graphic control link frame sum i = 1000000 - i
+μ-loop what text₀ glyph₀ graphic₀ control₀ link₀ frame₀ half full sum₀ i₀ text glyph graphic control link frame sum i = 1000000 - i
 
 pub on-lent-spec : {M : Type 1} → statement M
 on-lent-spec =
@@ -23,14 +23,14 @@ on-lent-spec =
     μ-loop
     (λ c κs. search needs)
     (λ c κs. search needs)
-    (λ c. (omega arith, rw (c .before .fresh .ensures) fresh-in-range, search needs))
-    (λ c. search needs)
-    (λ c. sym (c .before .before .before .before .before .loop .inv .2))
+    (λ c. (omega arith, rw (c .before .fresh .ensures) (fresh-in-range _), search needs))
+    (λ c κs. search needs)
+    (λ c. sym (c .before .before .before .before .before .before .loop .inv .2))
     (λ c. search needs)
     (λ c. search needs)
     (λ c κs. search needs)
     (λ c κs. search needs)
     (λ c. search needs)
     (λ c. search needs)
-    (λ c. (omega arith, search needs, c .before .before .before .call .kept .1 .1 .1 .1 .1 .1 .0 ∙ c .before .before .before .before .before .before .before .before .before .before .before .loop .inv .2))
+    (λ c. (omega arith, search needs, c .before .before .before .transfer .kept .1 .1 .1 .1 .1 .1 .0 ∙ c .before .before .before .before .before .before .before .before .before .before .before .before .loop .inv .2))
     (λ c. search needs))

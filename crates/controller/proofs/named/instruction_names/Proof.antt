@@ -10,6 +10,6 @@ instruction-names-spec =
     tie.close
     (tie.spec
     (λ c κs. search needs)
-    (λ c. rw (← c .before .standby-ends .ensures, c .if1 .taken))
+    (λ c. rw (← c .before .standby-ended .ensures, c .if1 .taken))
     (λ c κs. search needs)
-    (λ c. rw (← c .before .before .before .before .standby-ends .ensures, c .before .before .before .if1 .left) (c .listed .ensures)))
+    (λ c. rw (← c .before .before .before .before .standby-ended .ensures, c .before .before .before .if1 .left) (c .touch-names .ensures)))

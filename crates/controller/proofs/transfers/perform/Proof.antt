@@ -1,6 +1,7 @@
 -- By the deed.
 use borrow.Author.Needs.{needs}
-use Rattle.controller.specs.Transfers.{performed}
+use mathlib.Core.Path.{_∙_, ap}
+use Rattle.controller.specs.Transfers.{restarted, performed}
 use Rattle.controller.proofs.transfers.perform.Statement.{statement}
 use Rattle.controller.proofs.transfers.perform.Tie as tie
 
@@ -14,6 +15,7 @@ perform-spec =
     (λ c κs. search needs)
     (λ c. search needs)
     (λ c κs. search needs)
+    (λ c κs. search needs)
     (λ c. rw (c .enum-told .given .1))
     (λ c. rw (c .before .before .before .before .before .deed .given .1) (c .carry-out .ensures))
-    (λ c. rw (c .before .before .before .before .enum-told2 .given .1) (c .restart .ensures)))
+    (λ c. rw (c .before .before .before .before .before .before .deed2 .given .1) (c .restart .ensures ∙ ap restarted (c .before .remade .ensures))))

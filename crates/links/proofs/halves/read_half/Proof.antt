@@ -18,7 +18,7 @@ read-half-spec =
     (λ c. search needs)
     (λ c κs. search needs)
     (λ c κs. search needs)
-    (λ c. rw (c .handed .ensures, c .before .raised .ensures, c .before .before .before .before .pairing .given .1, c .before .before .if1 .taken))
+    (λ c. rw (c .hands-over .ensures, c .before .raised .ensures, c .before .before .before .before .pairing .given .1, c .before .before .if1 .taken))
     (λ c κs. search needs)
     (λ c κs. search needs)
     (λ c. rw (c .acts .ensures, c .before .reading .ensures, c .before .before .enum-told .given .1))

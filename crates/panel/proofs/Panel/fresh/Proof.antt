@@ -13,4 +13,4 @@ fresh-spec =
     (tie.spec
     (λ c κs. search needs)
     (λ c κs. search needs)
-    (λ c. (rw (c .idle .ensures, c .before .fresh .ensures), rw (c .before .fresh .ensures) fresh-valid)))
+    (λ c. (rw (c .idle .ensures, c .before .fresh .ensures), rw (c .before .fresh .ensures) (fresh-valid _))))

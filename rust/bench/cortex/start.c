@@ -1,0 +1,133 @@
+/* Counts instructions of the proved code on an emulated Cortex-M. `-icount shift=0` makes an instruction a nanosecond of the emulated
+   time, and SysTick counts that at 25 MHz, 40 instructions to a tick. Each count is of many turns, less those of an empty loop. */
+typedef unsigned char byte;
+typedef unsigned int word;
+typedef unsigned long long wide;
+
+/* The exported functions; a length is a number of 64 bits, as in the module. */
+byte zifqarell_draw(const byte *text, const byte *glyph, const byte *graphic, const byte *control, byte *frame, wide frame_length,
+                    const byte *half, wide half_length, const byte *full, wide full_length, _Bool phase);
+
+/* The loop of the program `timing`, so many turns as tools/cortex put in place of its million. */
+word on_lent(byte what) __asm__("timing::on_lent");
+
+/* Put in by screens.s: four screens of text, glyph, graphic, controls and picture; the fonts. */
+#define SCREEN (128 + 128 + 2048 + 23 + 1024)
+extern const byte screens[4][SCREEN], half[2048], full[267264];
+
+static byte frame[1024];
+
+static volatile word *const systick = (volatile word *)0xE000E010; /* control, reload, current */
+
+static word say(word operation, const void *argument) {
+    register word r0 __asm__("r0") = operation;
+    register const void *r1 __asm__("r1") = argument;
+    __asm__ volatile("bkpt 0xab" : "+r"(r0) : "r"(r1) : "memory");
+    return r0;
+}
+
+static void print(const char *text) { say(4, text); }
+
+static void print_number(word number) {
+    char digits[11], *at = digits + 10;
+    *at = 0;
+    do {
+        *--at = '0' + number % 10;
+        number /= 10;
+    } while (number);
+    print(at);
+}
+
+static word begun;
+static void start(void) { begun = systick[2]; }
+/* The instructions of one of so many turns. */
+static word stop(word turns) { return (((begun - systick[2]) & 0xFFFFFF) * 40 + turns / 2) / turns; }
+
+static void report(const char *name, word count) {
+    print(name);
+    print(" ");
+    print_number(count);
+    print("\n");
+}
+
+#define DRAWS 8
+
+static void draw_all(void) {
+    static const char *const names[4] = {"draw-text", "draw-glyph", "draw-graphic", "draw-mixed"};
+    for (word k = 0; k < 4; k++) {
+        const byte *s = screens[k];
+        start();
+        for (word turn = 0; turn < DRAWS; turn++)
+            zifqarell_draw(s, s + 128, s + 256, s + 2304, frame, 1024, half, 2048, full, sizeof full, 1);
+        word count = stop(DRAWS);
+        for (word i = 0; i < 1024; i++)
+            if (frame[i] != s[2327 + i]) {
+                print("another picture\n");
+                return;
+            }
+        report(names[k], count);
+    }
+}
+
+static void write_all(void) {
+    static const char *const names[3] = {"write-text", "write-glyph", "write-graphic"};
+    static const byte what[3] = {'t', 'i', 'g'};
+    for (word k = 0; k < 3; k++) {
+        start();
+        word sum = on_lent(what[k]);
+        word count = stop(TURNS);
+        report(names[k], count);
+        (void)sum;
+    }
+}
+
+void begin(void) {
+    systick[1] = 0xFFFFFF;
+    systick[2] = 0;
+    systick[0] = 5;
+    draw_all();
+    write_all();
+    say(0x18, (void *)0x20026);
+    for (;;) {
+    }
+}
+
+__attribute__((section(".vectors"), used)) static const void *const vectors[16] = {(void *)0x20400000, (void *)begin};
+
+/* What the module and the compiler ask for beside libgcc: of the C library, and of the program `timing` (never called here). */
+void *memcpy(void *to, const void *from, word n) {
+    byte *t = to;
+    const byte *f = from;
+    if ((((word)t | (word)f) & 3) == 0)
+        for (; n >= 4; n -= 4, t += 4, f += 4) *(word *)t = *(const word *)f;
+    while (n--) *t++ = *f++;
+    return to;
+}
+void *memmove(void *to, const void *from, word n) {
+    byte *t = to;
+    const byte *f = from;
+    if (t <= f || t >= f + n) return memcpy(to, from, n);
+    while (n--) t[n] = f[n];
+    return to;
+}
+void *memset(void *to, int value, word n) {
+    byte *t = to;
+    if (((word)t & 3) == 0) {
+        word four = (byte)value * 0x01010101u;
+        for (; n >= 4; n -= 4, t += 4) *(word *)t = four;
+    }
+    while (n--) *t++ = value;
+    return to;
+}
+void __aeabi_memcpy(void *to, const void *from, word n) { memcpy(to, from, n); }
+void __aeabi_memcpy4(void *to, const void *from, word n) { memcpy(to, from, n); }
+void __aeabi_memcpy8(void *to, const void *from, word n) { memcpy(to, from, n); }
+void __aeabi_memmove(void *to, const void *from, word n) { memmove(to, from, n); }
+void __aeabi_memmove4(void *to, const void *from, word n) { memmove(to, from, n); }
+void __aeabi_memmove8(void *to, const void *from, word n) { memmove(to, from, n); }
+void __aeabi_memset(void *to, word n, int value) { memset(to, value, n); }
+void __aeabi_memset4(void *to, word n, int value) { memset(to, value, n); }
+void __aeabi_memset8(void *to, word n, int value) { memset(to, value, n); }
+void __aeabi_memclr(void *to, word n) { memset(to, 0, n); }
+void __aeabi_memclr4(void *to, word n) { memset(to, 0, n); }
+void __aeabi_memclr8(void *to, word n) { memset(to, 0, n); }
