@@ -5,7 +5,7 @@ use native.Mathlib.Omega.{arith}
 use borrow.Author.Tests.{eqb-true, eqb-false}
 use lib.Dec.{eqb}
 use Rattle.base.proofs.Choice.{either-told}
-use Rattle.capture.specs.Kinds.{Kind, instructionWrite, dataWrite, statusRead, dataRead, eightBits, selectLow, reset, kindOf}
+use Rattle.capture.specs.Kinds.{Kind, instructionWrite, dataWrite, statusRead, dataRead, eightBits, chipSelectLow, reset, kindOf}
 
 -- what holds of each kind under its own number holds of the kind that a number has
 pub by-kind :
@@ -15,7 +15,7 @@ pub by-kind :
     → (n ≡ 2 → P statusRead)
     → (n ≡ 3 → P dataRead)
     → (n ≡ 4 → P eightBits)
-    → (n ≡ 5 → P selectLow)
+    → (n ≡ 5 → P chipSelectLow)
     → (5 < n → P reset)
     → P (kindOf n)
 unfolding kindOf

@@ -10,7 +10,7 @@ pub data Kind : Type 0 where
   statusRead : Kind
   dataRead : Kind
   eightBits : Kind
-  selectLow : Kind
+  chipSelectLow : Kind
   reset : Kind
 
 -- refusal 8: a kind above 6
@@ -25,7 +25,7 @@ kindOf number =
     else if eqb number 2 then statusRead
     else if eqb number 3 then dataRead
     else if eqb number 4 then eightBits
-    else if eqb number 5 then selectLow
+    else if eqb number 5 then chipSelectLow
     else reset
 
 -- refusal 9: kinds 2, 3, 5 need value 0; 6 needs 0 or 1
@@ -35,7 +35,7 @@ allowed dataWrite value = true
 allowed statusRead value = eqb value 0
 allowed dataRead value = eqb value 0
 allowed eightBits value = true
-allowed selectLow value = eqb value 0
+allowed chipSelectLow value = eqb value 0
 allowed reset value = leb value 1
 
 -- whether a reply is shown for it
@@ -45,5 +45,5 @@ reads dataWrite = false
 reads statusRead = true
 reads dataRead = true
 reads eightBits = false
-reads selectLow = false
+reads chipSelectLow = false
 reads reset = false

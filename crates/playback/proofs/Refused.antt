@@ -11,7 +11,7 @@ use Rattle.events.specs.declared.Event.{Event}
 use Rattle.events.specs.declared.Event.the-variants.{Bit}
 use Rattle.links.specs.Items.{highestFirst}
 use Rattle.picture.specs.Picture.{Seen}
-use Rattle.capture.specs.Kinds.{Kind, instructionWrite, dataWrite, statusRead, dataRead, eightBits, selectLow, reset, kindOf}
+use Rattle.capture.specs.Kinds.{Kind, instructionWrite, dataWrite, statusRead, dataRead, eightBits, chipSelectLow, reset, kindOf}
 use Rattle.calls.specs.State.{State}
 use Rattle.calls.specs.Calls.{Called, refused, called}
 use Rattle.calls.proofs.Kept.{Unmoved, called-unmoved, called-length}
@@ -28,7 +28,7 @@ one-or-bits P dataWrite value one bits = one _
 one-or-bits P statusRead value one bits = one _
 one-or-bits P dataRead value one bits = one _
 one-or-bits P eightBits value one bits = bits
-one-or-bits P selectLow value one bits = one _
+one-or-bits P chipSelectLow value one bits = one _
 one-or-bits P reset value one bits = one _
 
 -- what is called in turn is no refusal

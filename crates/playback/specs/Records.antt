@@ -8,7 +8,7 @@ use Rattle.events.specs.declared.Event.the-variants.{Transfer, Bit, SelectLow, 
 use Rattle.events.specs.declared.Transfer.the-variants.{Instruct, Write, Status, Read}
 use Rattle.links.specs.Items.{highestFirst}
 use Rattle.picture.specs.Picture.{Seen}
-use Rattle.capture.specs.Kinds.{Kind, instructionWrite, dataWrite, statusRead, dataRead, eightBits, selectLow, reset, kindOf}
+use Rattle.capture.specs.Kinds.{Kind, instructionWrite, dataWrite, statusRead, dataRead, eightBits, chipSelectLow, reset, kindOf}
 use Rattle.calls.specs.State.{State}
 use Rattle.calls.specs.Calls.{Called, refused, called}
 
@@ -19,7 +19,7 @@ asks dataWrite value = Transfer (Write value) ∷ []
 asks statusRead value = Transfer Status ∷ []
 asks dataRead value = Transfer Read ∷ []
 asks eightBits value = map Bit (highestFirst value)
-asks selectLow value = SelectLow ∷ []
+asks chipSelectLow value = SelectLow ∷ []
 asks reset value = Reset (record { parallel = eqb value 1 }) ∷ []
 
 -- a record's events
