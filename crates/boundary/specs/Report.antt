@@ -6,7 +6,7 @@ use lib.ListN.{length}
 use lib.Dec.{eqb}
 use Rattle.base.specs.Choice.{if_then_else_}
 use Rattle.picture.specs.Picture.{Seen}
-use Rattle.picture.specs.Refusals.{refusalOf}
+use Rattle.picture.specs.Refusals.{lentRefusal}
 use Rattle.calls.specs.State.{State, freshState}
 use Rattle.playback.specs.Transcript.{Told, replayedSilently}
 use Rattle.state_bytes.specs.Packed.{packed}
@@ -41,6 +41,6 @@ reported s = report (s .ending .number) (s .ending .frame) (stateBytes (s .endin
 -- refused with 1, 2, 3 as a call, which leaves all that it was lent; else a fresh panel replays, and where that stopped is told
 unfoldable pub freshReplay : Bool → Seen → List ℕ → List ℕ → List ℕ → List ℕ → Report
 freshReplay parallel e capture frame state last =
-    if eqb (refusalOf (length frame) (length (e .half)) (length (e .full))) 0
+    if eqb (lentRefusal e frame) 0
     then reported (replayedSilently e capture (freshState (record { parallel = parallel })) frame)
-    else report (refusalOf (length frame) (length (e .half)) (length (e .full))) frame state last
+    else report (lentRefusal e frame) frame state last

@@ -11,7 +11,7 @@ use state_bytes::unpack;
 ghost use mathlib.Core.Path.{_≡_};
 ghost use Rattle.controller.specs.Memories.{before};
 ghost use Rattle.picture.specs.Picture.{seen};
-ghost use Rattle.picture.specs.Refusals.{leaves, drawn};
+ghost use Rattle.picture.specs.Refusals.{drawing, drawn};
 ghost use Rattle.links.specs.Sender.{leaving, sent};
 ghost use Rattle.state_bytes.specs.Packed.{unpacked};
 ghost use Rattle.boundary.specs.Report.{report, freshReplay};
@@ -28,7 +28,7 @@ pub extern "C" fn zifqarell_draw(
     full: &[u8],
     phase: bool,
 ) -> u8
-    ensures { λ r. ⌜ leaves r (now (frame .exit)) ≡ drawn (seen half full phase) (before text glyph graphic) (unpacked (now (control .entry))) (now (frame .entry)) ⌝ }
+    ensures { λ r. ⌜ drawing r (now (frame .exit)) ≡ drawn (seen half full phase) (before text glyph graphic) (unpacked (now (control .entry))) (now (frame .entry)) ⌝ }
 {
     let control = unpack(control);
     picture::draw::draw(text, glyph, graphic, control, frame, half, full, phase)

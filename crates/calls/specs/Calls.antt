@@ -16,8 +16,9 @@ use Rattle.links.specs.declared.Rest.{Rest}
 use Rattle.links.specs.declared.Taken.{Taken}
 use Rattle.links.specs.declared.Taken.the-variants.{OtherLink, Carries}
 use Rattle.links.specs.Taken.{takenBy, replied}
-use Rattle.picture.specs.Picture.{Seen, fontsOf, lookOf}
-use Rattle.picture.specs.Refusals.{refusalOf}
+use Rattle.picture.specs.Picture.{Seen, fontsOf, lookOf, wide}
+use Rattle.picture.specs.Refusals.{lentRefusal}
+pub use Rattle.picture.specs.Refusals.{Fits}
 use Rattle.repaint.specs.Repaint.{repainted, countNamed}
 use Rattle.calls.specs.declared.LentOutcome.{LentOutcome}
 use Rattle.calls.specs.State.{State, state}
@@ -41,8 +42,8 @@ accepted e frame a rest =
       state = state (a .memories) (a .done .control) (replied rest (a .done .reply) .link);
       number = 0;
       reply = replied rest (a .done .reply) .reply;
-      count = countNamed (a .done .control .view) (a .memories .text) (a .done .region);
-      frame = repainted (fontsOf e) (a .memories) (lookOf (e .phase) (a .done .control)) (a .done .region) frame;
+      count = countNamed wide (a .done .control .view) (a .memories .text) (a .done .region);
+      frame = repainted wide (fontsOf e) (a .memories) (lookOf (e .phase) (a .done .control)) (a .done .region) frame;
     }
 
 -- refusal 5, checked last; else what reaches the controller is done
@@ -59,16 +60,12 @@ abbrev pub reaching : Taken → Deed
 reaching OtherLink = Nothing
 reaching (Carries c) = c .deed
 
--- frame and fonts have the lengths that refusals 1, 2 and 3 ask for
-abbrev pub Fits : Seen → List ℕ → Type 0
-Fits e frame = refusalOf (length frame) (length (e .half)) (length (e .full)) ≡ 0
-
 -- a call: refusals 1, 2, 3 in their order, then 5
 unfoldable pub called : Seen → State → List ℕ → Event → Called
 called e s frame event =
-    if eqb (refusalOf (length frame) (length (e .half)) (length (e .full))) 0
+    if eqb (lentRefusal e frame) 0
     then unlessOther e s frame (takenOn s event)
-    else refused s frame (refusalOf (length frame) (length (e .half)) (length (e .full)))
+    else refused s frame (lentRefusal e frame)
 
 -- the answer of a refused call on lent memories
 abbrev pub refusedOutcome : Control → Link → ℕ → LentOutcome

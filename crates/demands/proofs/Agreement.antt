@@ -23,7 +23,7 @@ use Rattle.links.specs.Items.{WholeWrite, Item, write, besideWires, deed, Way, 
 use Rattle.links.specs.Connector.{Performed, CameAll, Comes, elsewhere, comes, next, preceded, carriedAt, takenAt, eventAt, runs, KeepsDl, Idles}
 use Rattle.links.proofs.ItemsAct.{items-act, lists-agree}
 use Rattle.picture.specs.declared.Look.{Look}
-use Rattle.picture.specs.Picture.{Fonts, Seen, fontsOf, lookOf}
+use Rattle.picture.specs.Picture.{Fonts, Seen, fontsOf, lookOf, wide}
 use Rattle.repaint.specs.Repaint.{named, repainted, countNamed}
 use Rattle.repaint.proofs.Counts.{count-nothing}
 use Rattle.calls.specs.State.{state}
@@ -35,11 +35,11 @@ use Rattle.demands.proofs.ButDl.{boardButDl, board-respects}
 use Rattle.demands.proofs.ItemCounts.{sums-back, counts-agree}
 
 -- where nothing reaches the controller nothing is painted, and nothing counted
-none-painted : (e : Fonts) (m : Memories) (look : Look) (frame : List ℕ) → repainted e m look region.Nothing frame ≡ frame
+none-painted : (e : Fonts) (m : Memories) (look : Look) (frame : List ℕ) → repainted wide e m look region.Nothing frame ≡ frame
 unfolding repainted named covers
 none-painted e m look frame = painted-none _ _ frame (λ i h. refl)
 
-none-counted : (v : View) (text : List ℕ) → countNamed v text region.Nothing ≡ 0
+none-counted : (v : View) (text : List ℕ) → countNamed wide v text region.Nothing ≡ 0
 unfolding countNamed named
 none-counted v text = count-nothing v text
 
@@ -49,7 +49,7 @@ board-idles e b =
     rw (none-painted (fontsOf e) (b .memories) (lookOf (e .phase) (b .control)) (b .frame))
 
 -- a painted frame keeps its length
-repainted-fits : (e : Seen) (m : Memories) (look : Look) (r : Region) (frame : List ℕ) → Fits e frame → Fits e (repainted (fontsOf e) m look r frame)
+repainted-fits : (e : Seen) (m : Memories) (look : Look) (r : Region) (frame : List ℕ) → Fits e frame → Fits e (repainted wide (fontsOf e) m look r frame)
 unfolding repainted
 repainted-fits e m look r frame h = rw (painted-length _ _ frame) h
 

@@ -27,7 +27,7 @@ use Rattle.events.specs.declared.Transfer.the-variants.{Instruct, Write, Status
 use Rattle.events.specs.declared.Deed.the-variants.{Whole}
 use Rattle.links.specs.declared.Taken.{Taken}
 use Rattle.links.specs.declared.Taken.the-variants.{OtherLink, Carries}
-use Rattle.picture.specs.Picture.{Seen}
+use Rattle.picture.specs.Picture.{Seen, wide}
 use Rattle.picture.specs.Refusals.{refusalOf}
 use Rattle.repaint.specs.Repaint.{named, countNamed}
 use Rattle.repaint.proofs.Counts.{count-cells, count-glyph, count-graphic, count-nothing}
@@ -46,12 +46,12 @@ writeBound Text = 64
 writeBound Glyph = 32
 writeBound Graphic = 1
 
-text-count : (v : View) (text : List ℕ) (p q : Place) → countNamed v text (textNames p q) ≤ 64
+text-count : (v : View) (text : List ℕ) (p q : Place) → countNamed wide v text (textNames p q) ≤ 64
 unfolding countNamed named
 text-count v text p q = count-cells v text _ _
 
 by-target :
-    (v : View) (text : List ℕ) (t : Target) (p q : Place) → countNamed v text (writeByTarget t p q) ≤ writeBound t
+    (v : View) (text : List ℕ) (t : Target) (p q : Place) → countNamed wide v text (writeByTarget t p q) ≤ writeBound t
 unfolding countNamed named covers
 by-target v text Text p q = text-count v text p q
 by-target v text Glyph p q = count-glyph v text (p .counter) (p .low)
@@ -70,21 +70,21 @@ bound-64 Text = omega arith
 bound-64 Glyph = omega arith
 bound-64 Graphic = omega arith
 
-nothing-count : (v : View) (text : List ℕ) (n : ℕ) → countNamed v text Nothing ≤ n
+nothing-count : (v : View) (text : List ℕ) (n : ℕ) → countNamed wide v text Nothing ≤ n
 unfolding countNamed named
 nothing-count v text n = subst (λ (k : ℕ). k ≤ n) (sym (count-nothing v text)) (omega arith)
 
-cells-count : (v : View) (text : List ℕ) (p q : Place) → countNamed v text (bothCells p q) ≤ 64
+cells-count : (v : View) (text : List ℕ) (p q : Place) → countNamed wide v text (bothCells p q) ≤ 64
 unfolding countNamed named
 cells-count v text p q = count-cells v text _ _
 
 pub read-count :
-    (m : Memories) (c : Control) → c .entry .s ≡ false → countNamed (readOut m c .control .view) (m .text) (readOut m c .region) ≤ 64
+    (m : Memories) (c : Control) → c .entry .s ≡ false → countNamed wide (readOut m c .control .view) (m .text) (readOut m c .region) ≤ 64
 unfolding readOut readNames
 read-count m c s =
-    either (λ (d : Done). countNamed (d .control .view) (m .text) (d .region) ≤ 64) (c .place .dummy) (nothing-count _ (m .text) 64)
+    either (λ (d : Done). countNamed wide (d .control .view) (m .text) (d .region) ≤ 64) (c .place .dummy) (nothing-count _ (m .text) 64)
     (rw (unshifted c s)
-    (either (λ (r : Region). countNamed (movedOn c .view) (m .text) r ≤ 64) (completes (c .place))
+    (either (λ (r : Region). countNamed wide (movedOn c .view) (m .text) r ≤ 64) (completes (c .place))
     (cells-count (movedOn c .view) (m .text) (c .place) (movedOn c .place))
     (nothing-count (movedOn c .view) (m .text) 64)))
 

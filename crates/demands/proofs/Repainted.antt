@@ -4,7 +4,7 @@ use Prim.Native.Nat.{ℕ, _<_, _/_, _%_}
 use mathlib.Core.Bool.{false}
 use mathlib.Core.Path.{_≡_, refl}
 use native.Mathlib.Omega.{arith}
-use Rattle.base.proofs.Painting.{painted-old}
+use Rattle.base.proofs.Layouts.{repainted-whole}
 use Rattle.table.specs.Table.{said}
 use Rattle.controller.specs.declared.Control.{Control}
 use Rattle.controller.specs.Memories.{Memories}
@@ -17,7 +17,9 @@ use Rattle.events.specs.declared.Transfer.{Transfer}
 use Rattle.events.specs.declared.Transfer.the-variants.{Instruct, Write, Status, Read}
 use Rattle.events.specs.declared.Deed.{Deed}
 use Rattle.events.specs.declared.Deed.the-variants as deed
-use Rattle.picture.specs.Picture.{Seen, fontsOf, lookOf, byteAt, atPlace, picture, pictured}
+use Rattle.picture.specs.Picture.{Seen, fontsOf, lookOf, byteAt, wide, picture, pictured}
+use Rattle.picture.proofs.Wide.{wide-placed}
+use Rattle.controller.specs.Glass.{placeOf}
 use Rattle.repaint.specs.Repaint.{named, repainted}
 use Rattle.repaint.proofs.Unnamed.{never-whole, obeyed-unnamed, written-unnamed, readOut-unnamed}
 use Rattle.calls.specs.State.{State, Valid}
@@ -50,13 +52,13 @@ module _ (e : Seen) (m : Memories) (c : Control) (r : InRange c) where
 repainted-picture :
     (e : Seen) (m : Memories) (c : Control) (a : Acted)
     → UnnamedKept e m c a
-    → repainted (fontsOf e) (a .memories) (lookOf (e .phase) (a .done .control)) (a .done .region) (pictured e m c)
+    → repainted wide (fontsOf e) (a .memories) (lookOf (e .phase) (a .done .control)) (a .done .region) (pictured e m c)
     ≡ pictured e (a .memories) (a .done .control)
 unfolding repainted named picture
 repainted-picture e m c a k =
-    painted-old (atPlace (covers (a .done .control .view) (a .memories .text) (a .done .region)))
-    (atPlace (byteAt (fontsOf e) (a .memories) (lookOf (e .phase) (a .done .control)))) (atPlace (byteAt (fontsOf e) m (lookOf (e .phase) c))) 1024
-    (λ i h u. k (i / 32) (i % 32) (omega arith) u)
+    repainted-whole wide 32 32 placeOf wide-placed (covers (a .done .control .view) (a .memories .text) (a .done .region))
+    (byteAt (fontsOf e) (a .memories) (lookOf (e .phase) (a .done .control))) (byteAt (fontsOf e) m (lookOf (e .phase) c))
+    (λ row column h l u. k row column l u)
 
 -- the frame is the picture of the state
 abbrev pub ShowsPicture : Seen → Called → Type 0

@@ -22,7 +22,7 @@ use Rattle.controller.specs.Named.{counterCell, instructionNames, writeNames, c
 use Rattle.controller.specs.Transfers.{executed, written, carriedOut, performed}
 use Rattle.links.specs.Items.{WholeWrite, Item, Way, wholeBytes, halves, serial}
 use Rattle.links.specs.Connector.{does}
-use Rattle.picture.specs.Picture.{Seen}
+use Rattle.picture.specs.Picture.{Seen, wide}
 use Rattle.repaint.specs.Repaint.{named, countNamed}
 use Rattle.base.proofs.Counting.{count-all}
 use Rattle.repaint.proofs.Counts.{count-whole, count-nothing}
@@ -37,12 +37,12 @@ use Rattle.demands.proofs.KeepDl.{function-sets-keep-dl}
 
 -- what the first instruction counts
 waking : (v : View) (text : List ℕ) (standby : Bool) (r : Region) →
-    countNamed v text (if standby && true then Whole else r) ≡ (if standby then 1024 else countNamed v text r)
+    countNamed wide v text (if standby && true then Whole else r) ≡ (if standby then 1024 else countNamed wide v text r)
 unfolding countNamed named
 waking v text true r = count-whole v text
 waking v text false r = refl
 
-none-named : (v : View) (text : List ℕ) → countNamed v text region.Nothing ≡ 0
+none-named : (v : View) (text : List ℕ) → countNamed wide v text region.Nothing ≡ 0
 unfolding countNamed named
 none-named v text = count-nothing v text
 
@@ -72,19 +72,19 @@ module _ (e : Seen) (frame : List ℕ) (m : Memories) (k : Control) (b c : ℕ) 
 
   text-counted : (z : Bool) (a : ℕ) (h : a < 256) → 0x80 ≤ a →
       itemCounts e (from false z (k .sr) (k .place .waiting)) (instruction a h ∷ datum b p ∷ datum c q ∷ [])
-      ≡ allIf (k .standby) (countNamed (k .view) (m .text) (Cells (counterCell (k .place)) (Word (bits5-0 a))))
-      ∷ countNamed (k .view) (m .text) (Cells (Word (bits5-0 a)) Nowhere)
-      ∷ allIf z (countNamed (k .view) (m .text) (Cells (Word (bits5-0 a)) (Word (stepped (k .entry .id) (bits5-0 a)))))
+      ≡ allIf (k .standby) (countNamed wide (k .view) (m .text) (Cells (counterCell (k .place)) (Word (bits5-0 a))))
+      ∷ countNamed wide (k .view) (m .text) (Cells (Word (bits5-0 a)) Nowhere)
+      ∷ allIf z (countNamed wide (k .view) (m .text) (Cells (Word (bits5-0 a)) (Word (stepped (k .entry .id) (bits5-0 a)))))
       ∷ []
   unfolding itemCounts performed carriedOut executed written stored obeyed moved movedOn instructionNames writeNames countNamed named covers
   text-counted false a h low =
       let first = waking (k .view) (m .text) (k .standby) (Cells (counterCell (k .place)) (Word (bits5-0 a))) in
-      let word = countNamed (k .view) (m .text) (Cells (Word (bits5-0 a)) Nowhere) in
-      let both = countNamed (k .view) (m .text) (Cells (Word (bits5-0 a)) (Word (stepped (k .entry .id) (bits5-0 a)))) in
+      let word = countNamed wide (k .view) (m .text) (Cells (Word (bits5-0 a)) Nowhere) in
+      let both = countNamed wide (k .view) (m .text) (Cells (Word (bits5-0 a)) (Word (stepped (k .entry .id) (bits5-0 a)))) in
       rw (says-text (k .sr) (k .place .target) a low h) (ap (λ (n : ℕ). n ∷ word ∷ both ∷ []) first)
   text-counted true a h low =
       let first = waking (k .view) (m .text) (k .standby) (Cells (counterCell (k .place)) (Word (bits5-0 a))) in
-      let word = countNamed (k .view) (m .text) (Cells (Word (bits5-0 a)) Nowhere) in
+      let word = countNamed wide (k .view) (m .text) (Cells (Word (bits5-0 a)) Nowhere) in
       rw (says-text (k .sr) (k .place .target) a low h, count-all 1024 (λ i. true) (λ i h. refl)) (ap (λ (n : ℕ). n ∷ word ∷ 1024 ∷ []) first)
 
   glyph-left : (a : ℕ) (h : a < 256) → 0x40 ≤ a → a < 0x80 →
@@ -95,13 +95,13 @@ module _ (e : Seen) (frame : List ℕ) (m : Memories) (k : Control) (b c : ℕ) 
 
   glyph-counted : (a : ℕ) (h : a < 256) → 0x40 ≤ a → a < 0x80 →
       itemCounts e (from false (k .entry .s) false (k .place .waiting)) (instruction a h ∷ datum b p ∷ datum c q ∷ [])
-      ≡ allIf (k .standby) (countNamed (k .view) (m .text) (Cells (counterCell (k .place)) Nowhere))
-      ∷ countNamed (k .view) (m .text) (GlyphHalf (bits5-0 a) false)
-      ∷ countNamed (k .view) (m .text) (GlyphHalf (bits5-0 a) true)
+      ≡ allIf (k .standby) (countNamed wide (k .view) (m .text) (Cells (counterCell (k .place)) Nowhere))
+      ∷ countNamed wide (k .view) (m .text) (GlyphHalf (bits5-0 a) false)
+      ∷ countNamed wide (k .view) (m .text) (GlyphHalf (bits5-0 a) true)
       ∷ []
   unfolding itemCounts performed carriedOut executed written stored obeyed moved movedOn instructionNames writeNames
   glyph-counted a h low high =
-      let more = countNamed (k .view) (m .text) (GlyphHalf (bits5-0 a) false) ∷ countNamed (k .view) (m .text) (GlyphHalf (bits5-0 a) true) ∷ [] in
+      let more = countNamed wide (k .view) (m .text) (GlyphHalf (bits5-0 a) false) ∷ countNamed wide (k .view) (m .text) (GlyphHalf (bits5-0 a) true) ∷ [] in
       rw (says-glyph (k .place .target) a low high)
       (ap (λ (n : ℕ). n ∷ more) (waking (k .view) (m .text) (k .standby) (Cells (counterCell (k .place)) Nowhere)))
 
@@ -117,18 +117,18 @@ module _ (e : Seen) (frame : List ℕ) (m : Memories) (k : Control) (b c : ℕ) 
   graphic-counted : (y x : ℕ) (h : y < 256) (i : x < 256) → 0x80 ≤ y → 0x80 ≤ x →
       itemCounts e (from true (k .entry .s) (k .sr) Nothing) (instruction y h ∷ instruction x i ∷ datum b p ∷ datum c q ∷ [])
       ≡ allIf (k .standby) 0
-      ∷ countNamed (k .view) (m .text) (Cells (counterCell (k .place)) Nowhere)
-      ∷ countNamed (k .view) (m .text) (GraphicHalf (bits5-0 y) (bits3-0 x) false)
-      ∷ countNamed (k .view) (m .text) (GraphicHalf (bits5-0 y) (bits3-0 x) true)
+      ∷ countNamed wide (k .view) (m .text) (Cells (counterCell (k .place)) Nowhere)
+      ∷ countNamed wide (k .view) (m .text) (GraphicHalf (bits5-0 y) (bits3-0 x) false)
+      ∷ countNamed wide (k .view) (m .text) (GraphicHalf (bits5-0 y) (bits3-0 x) true)
       ∷ []
   unfolding itemCounts performed carriedOut executed written stored obeyed moved movedOn instructionNames writeNames
   graphic-counted y x h i low low' =
       let row : bits5-0 (bits5-0 y) ≡ bits5-0 y = omega arith in
       let column : bits3-0 (bits5-0 x) ≡ bits3-0 x = omega arith in
       let more =
-      countNamed (k .view) (m .text) (Cells (counterCell (k .place)) Nowhere)
-      ∷ countNamed (k .view) (m .text) (GraphicHalf (bits5-0 y) (bits3-0 x) false)
-      ∷ countNamed (k .view) (m .text) (GraphicHalf (bits5-0 y) (bits3-0 x) true)
+      countNamed wide (k .view) (m .text) (Cells (counterCell (k .place)) Nowhere)
+      ∷ countNamed wide (k .view) (m .text) (GraphicHalf (bits5-0 y) (bits3-0 x) false)
+      ∷ countNamed wide (k .view) (m .text) (GraphicHalf (bits5-0 y) (bits3-0 x) true)
       ∷ [] in
       rw (says-graphic (k .sr) (k .place .target) y low h, says-graphic (k .sr) (k .place .target) x low' i, row, column)
       (ap (λ (n : ℕ). n ∷ more)

@@ -15,7 +15,7 @@ use Rattle.links.specs.declared.Link.{Link}
 use Rattle.links.specs.declared.Link.the-variants.{Parallel, Serial}
 use Rattle.links.specs.Sender.{sent, leaving}
 use Rattle.picture.specs.Picture.{Seen}
-use Rattle.picture.specs.Refusals.{drawn, leaves}
+use Rattle.picture.specs.Refusals.{drawn, drawing}
 use Rattle.calls.specs.State.{State}
 use Rattle.calls.specs.Calls.{called, refused, afterCalls}
 use Rattle.demands.specs.Wires.{numbersOf}
@@ -72,7 +72,7 @@ pub record CallRefuses (e : Seen) (s : State) (frame : List ℕ) (call : Event) 
 -- drawing afresh takes frame and fonts, on either link
 pub record DrawRefuses (e : Seen) (m : Memories) (c : Control) (frame : List ℕ) : Type 0 where
   pub says : TableSays e frame false (drawn e m c frame .number)
-  pub keeps : drawn e m c frame .number ≢ 0 → drawn e m c frame ≡ leaves (drawn e m c frame .number) frame
+  pub keeps : drawn e m c frame .number ≢ 0 → drawn e m c frame ≡ drawing (drawn e m c frame .number) frame
 
 -- the sender: 4 where its buffer is under 3 bytes
 pub data SenderSays (buffer : List ℕ) : ℕ → Type 0 where

@@ -19,7 +19,7 @@ use Rattle.links.specs.declared.Link.the-variants.{Serial}
 use Rattle.links.specs.Idle.{idle}
 use Rattle.links.specs.Sender.{threeBytes, leaving, sent}
 use Rattle.picture.specs.Picture.{Seen, pictured}
-use Rattle.picture.specs.Refusals.{leaves, drawn}
+use Rattle.picture.specs.Refusals.{drawing, drawn}
 use Rattle.controller.specs.State.{remade}
 use Rattle.calls.specs.State.{State, state, freshState}
 use Rattle.calls.specs.Calls.{Called, Fits, called}
@@ -96,7 +96,7 @@ SelectLowIdles =
 -- An accepted drawing is the picture.
 abbrev pub DrawnIsPicture : Type 0
 DrawnIsPicture =
-    (e : Seen) (m : Memories) (c : Control) (frame : List ℕ) → Fits e frame → drawn e m c frame ≡ leaves 0 (pictured e m c)
+    (e : Seen) (m : Memories) (c : Control) (frame : List ℕ) → Fits e frame → drawn e m c frame ≡ drawing 0 (pictured e m c)
 
 -- The sender writes its three bytes, and no others.
 abbrev pub SendsThreeBytes : Type 0

@@ -16,7 +16,7 @@ use Rattle.events.specs.declared.Transfer.{Transfer}
 use Rattle.events.specs.declared.Transfer.the-variants.{Write}
 use Rattle.table.specs.declared.Target.the-variants.{Glyph, Graphic}
 use Rattle.events.specs.declared.Deed.the-variants.{Whole}
-use Rattle.picture.specs.Picture.{Seen, pictured}
+use Rattle.picture.specs.Picture.{Seen, pictured, wide}
 use Rattle.repaint.specs.Repaint.{named}
 use Rattle.events.specs.declared.Made.{Made}
 use Rattle.calls.specs.State.{State, freshState, Valid}
@@ -29,7 +29,7 @@ pictureOf e s = pictured e (s .memories) (s .control)
 
 -- the places that a deed names, in the state that it leaves
 abbrev pub namedActed : Acted → ℕ → Bool
-namedActed a i = named (a .done .control .view) (a .memories .text) (a .done .region) i
+namedActed a i = named wide (a .done .control .view) (a .memories .text) (a .done .region) i
 
 -- a call names what that names which of it reaches the controller
 abbrev pub namedBy : State → Event → ℕ → Bool

@@ -16,7 +16,7 @@ use Rattle.controller.specs.Memories.{Memories, memories, wordPlace, graphicPla
 use Rattle.controller.specs.Instructions.{stepped}
 use Rattle.controller.specs.Named.{counterCell}
 use Rattle.links.specs.Items.{Item, write, Way, wires, idleOn}
-use Rattle.picture.specs.Picture.{Seen}
+use Rattle.picture.specs.Picture.{Seen, wide}
 use Rattle.repaint.specs.Repaint.{countNamed}
 use Rattle.calls.specs.State.{State}
 use Rattle.calls.specs.Calls.{Fits, afterCalls}
@@ -45,7 +45,7 @@ withGraphicWord row column high low m =
 
 -- how many bytes a region has on the glass of a state
 abbrev pub sizeOn : State → Region → ℕ
-sizeOn s region = countNamed (s .control .view) (s .memories .text) region
+sizeOn s region = countNamed wide (s .control .view) (s .memories .text) region
 
 -- all 1,024 where an instruction ends standby, or a text word completes with S = 1
 abbrev pub allIf : Bool → ℕ → ℕ

@@ -179,7 +179,7 @@ contractOf draw =
       Input = Drawing Panel;
       Outcome = With ℕ;
       Left = Drawn;
-      leaves = λ x. refusals.leaves (x .result) (x .buffer);
+      leaves = λ x. refusals.drawing (x .result) (x .buffer);
       means = λ i. drawn (i .seen) (memoriesOf (i .state)) (i .state .control) (i .frame);
     }
 contractOf lentCall =
@@ -225,7 +225,7 @@ contractOf exportedDraw =
       Input = ExportedDrawing;
       Outcome = With ℕ;
       Left = Drawn;
-      leaves = λ x. refusals.leaves (x .result) (x .buffer);
+      leaves = λ x. refusals.drawing (x .result) (x .buffer);
       means = λ i. drawn (i .seen) (i .memories) (unpacked (i .control)) (i .frame);
     }
 contractOf exportedSend = sends

@@ -16,7 +16,7 @@ use Rattle.events.specs.declared.Transfer.{Transfer}
 use Rattle.events.specs.declared.Transfer.the-variants.{Instruct, Write, Status, Read}
 use Rattle.links.specs.Items.{WholeWrite, Item, write, deed, Way, wholeBytes, halves, serial, wires}
 use Rattle.links.specs.Connector.{Performed, Controller, does}
-use Rattle.picture.specs.Picture.{Seen, fontsOf, lookOf}
+use Rattle.picture.specs.Picture.{Seen, fontsOf, lookOf, wide}
 use Rattle.repaint.specs.Repaint.{repainted, countNamed}
 use Rattle.calls.specs.State.{State, state}
 use Rattle.calls.specs.Calls.{Called, called, Stands}
@@ -45,7 +45,7 @@ boardOf s frame = record { memories = s .memories; control = s .control; frame =
 
 -- a deed was done: how many bytes it names
 abbrev pub countOf : Acted → ℕ
-countOf a = countNamed (a .done .control .view) (a .memories .text) (a .done .region)
+countOf a = countNamed wide (a .done .control .view) (a .memories .text) (a .done .region)
 
 -- and these are repainted
 abbrev pub boardAfter : Seen → Board → Acted → Board
@@ -53,7 +53,7 @@ boardAfter e b a =
     record {
       memories = a .memories;
       control = a .done .control;
-      frame = repainted (fontsOf e) (a .memories) (lookOf (e .phase) (a .done .control)) (a .done .region) (b .frame);
+      frame = repainted wide (fontsOf e) (a .memories) (lookOf (e .phase) (a .done .control)) (a .done .region) (b .frame);
     }
 
 abbrev pub performedBy : Seen → Board → Acted → Performed Board

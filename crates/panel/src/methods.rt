@@ -9,7 +9,7 @@ use events::Pin;
 use events::Transfer;
 ghost use mathlib.Core.Path.{_≡_};
 ghost use Rattle.picture.specs.Picture.{seen};
-ghost use Rattle.picture.specs.Refusals.{leaves, drawn};
+ghost use Rattle.picture.specs.Refusals.{drawing, drawn};
 ghost use Rattle.calls.specs.State.{freshState, Valid};
 ghost use Rattle.events.specs.declared.Event.the-variants as event;
 ghost use Rattle.calls.specs.Calls.{called};
@@ -135,7 +135,7 @@ impl Panel {
 
     // The whole picture, drawn afresh into the frame; answers the refusal number.
     pub fn draw(self, frame: &mut [u8], half: &[u8], full: &[u8], phase: bool) -> u8
-        ensures { λ r. ⌜ leaves r (now (frame .exit)) ≡ drawn (seen half full phase) (memoriesOf self) (self .control) (now (frame .entry)) ⌝ }
+        ensures { λ r. ⌜ drawing r (now (frame .exit)) ≡ drawn (seen half full phase) (memoriesOf self) (self .control) (now (frame .entry)) ⌝ }
     {
         let text = self.text;
         let glyph = self.glyph;

@@ -6,7 +6,7 @@ use lib.ListN.{length}
 use lib.Dec.{eqb}
 use Rattle.base.specs.Choice.{if_then_else_}
 use Rattle.picture.specs.Picture.{Seen}
-use Rattle.picture.specs.Refusals.{refusalOf}
+use Rattle.picture.specs.Refusals.{lentRefusal}
 use Rattle.calls.specs.State.{State}
 use Rattle.calls.specs.Calls.{Called}
 use Rattle.capture.specs.Record.{number}
@@ -89,8 +89,8 @@ contentsReplayed e room c s frame place = recordsReplayed e (number (c .stop)) r
 -- a replay from a number of accepted records on: refusals 1, 2, 3 before anything is read
 unfoldable pub replayed : Seen → Room → List ℕ → State → List ℕ → ℕ → Replayed
 replayed e room capture s frame place =
-    if eqb (refusalOf (length frame) (length (e .half)) (length (e .full))) 0 then contentsReplayed e room (contents capture) s frame place
-    else halted s frame place (refusalOf (length frame) (length (e .half)) (length (e .full)))
+    if eqb (lentRefusal e frame) 0 then contentsReplayed e room (contents capture) s frame place
+    else halted s frame place (lentRefusal e frame)
 
 -- the last of some answers; where there are none, the one given
 unfoldable pub lastOr : RecordAnswer → List RecordAnswer → RecordAnswer
