@@ -39,7 +39,7 @@ none-painted : (e : Fonts) (m : Memories) (look : Look) (frame : List ℕ) → r
 unfolding repainted named covers
 none-painted e m look frame = painted-none _ _ frame (λ i h. refl)
 
-none-counted : (v : View) (text : List ℕ) → countNamed wide v text region.Nothing ≡ 0
+pub none-counted : (v : View) (text : List ℕ) → countNamed wide v text region.Nothing ≡ 0
 unfolding countNamed named
 none-counted v text = count-nothing v text
 

@@ -25,14 +25,14 @@ use Rattle.links.specs.Connector.{does}
 use Rattle.picture.specs.Picture.{Seen, wide}
 use Rattle.repaint.specs.Repaint.{named, countNamed}
 use Rattle.base.proofs.Counting.{count-all}
-use Rattle.repaint.proofs.Counts.{count-whole, count-nothing}
+use Rattle.repaint.proofs.Counts.{count-whole}
 use Rattle.calls.specs.State.{State}
 use Rattle.calls.specs.Calls.{Stands}
 use Rattle.demands.specs.Wires.{Board, board, itemCounts, items, SetsDl, SetsWidth}
 use Rattle.demands.specs.Agreement.{ReceivedAsGiven}
 use Rattle.demands.specs.Stored.{instruction, datum, withTextWord, withGlyphWord, withGraphicWord, allIf, textSizes, glyphSizes, graphicSizes, Begins, Stores, WordsStored}
 use Rattle.demands.proofs.Addresses.{says-text, says-glyph, says-graphic}
-use Rattle.demands.proofs.Agreement.{writes-are-received}
+use Rattle.demands.proofs.Agreement.{none-counted, writes-are-received}
 use Rattle.demands.proofs.KeepDl.{function-sets-keep-dl}
 
 -- what the first instruction counts
@@ -41,10 +41,6 @@ waking : (v : View) (text : List ℕ) (standby : Bool) (r : Region) →
 unfolding countNamed named
 waking v text true r = count-whole v text
 waking v text false r = refl
-
-none-named : (v : View) (text : List ℕ) → countNamed wide v text region.Nothing ≡ 0
-unfolding countNamed named
-none-named v text = count-nothing v text
 
 module _ (e : Seen) (frame : List ℕ) (m : Memories) (k : Control) (b c : ℕ) (p : b < 256) (q : c < 256) where
   -- a board with these flags, and all else as it is
@@ -64,6 +60,10 @@ module _ (e : Seen) (frame : List ℕ) (m : Memories) (k : Control) (b c : ℕ) 
         frame = frame;
       }
 
+  -- how many bytes a region has there
+  abbrev size : Region → ℕ
+  size r = countNamed wide (k .view) (m .text) r
+
   text-left : (a : ℕ) (h : a < 256) → 0x80 ≤ a →
       does (board e) (from false (k .entry .s) (k .sr) (k .place .waiting)) (instruction a h ∷ datum b p ∷ datum c q ∷ []) .memories
       ≡ withTextWord (bits5-0 a) b c m
@@ -72,19 +72,19 @@ module _ (e : Seen) (frame : List ℕ) (m : Memories) (k : Control) (b c : ℕ) 
 
   text-counted : (z : Bool) (a : ℕ) (h : a < 256) → 0x80 ≤ a →
       itemCounts e (from false z (k .sr) (k .place .waiting)) (instruction a h ∷ datum b p ∷ datum c q ∷ [])
-      ≡ allIf (k .standby) (countNamed wide (k .view) (m .text) (Cells (counterCell (k .place)) (Word (bits5-0 a))))
-      ∷ countNamed wide (k .view) (m .text) (Cells (Word (bits5-0 a)) Nowhere)
-      ∷ allIf z (countNamed wide (k .view) (m .text) (Cells (Word (bits5-0 a)) (Word (stepped (k .entry .id) (bits5-0 a)))))
+      ≡ allIf (k .standby) (size (Cells (counterCell (k .place)) (Word (bits5-0 a))))
+      ∷ size (Cells (Word (bits5-0 a)) Nowhere)
+      ∷ allIf z (size (Cells (Word (bits5-0 a)) (Word (stepped (k .entry .id) (bits5-0 a)))))
       ∷ []
   unfolding itemCounts performed carriedOut executed written stored obeyed moved movedOn instructionNames writeNames countNamed named covers
   text-counted false a h low =
       let first = waking (k .view) (m .text) (k .standby) (Cells (counterCell (k .place)) (Word (bits5-0 a))) in
-      let word = countNamed wide (k .view) (m .text) (Cells (Word (bits5-0 a)) Nowhere) in
-      let both = countNamed wide (k .view) (m .text) (Cells (Word (bits5-0 a)) (Word (stepped (k .entry .id) (bits5-0 a)))) in
+      let word = size (Cells (Word (bits5-0 a)) Nowhere) in
+      let both = size (Cells (Word (bits5-0 a)) (Word (stepped (k .entry .id) (bits5-0 a)))) in
       rw (says-text (k .sr) (k .place .target) a low h) (ap (λ (n : ℕ). n ∷ word ∷ both ∷ []) first)
   text-counted true a h low =
       let first = waking (k .view) (m .text) (k .standby) (Cells (counterCell (k .place)) (Word (bits5-0 a))) in
-      let word = countNamed wide (k .view) (m .text) (Cells (Word (bits5-0 a)) Nowhere) in
+      let word = size (Cells (Word (bits5-0 a)) Nowhere) in
       rw (says-text (k .sr) (k .place .target) a low h, count-all 1024 (λ i. true) (λ i h. refl)) (ap (λ (n : ℕ). n ∷ word ∷ 1024 ∷ []) first)
 
   glyph-left : (a : ℕ) (h : a < 256) → 0x40 ≤ a → a < 0x80 →
@@ -95,13 +95,13 @@ module _ (e : Seen) (frame : List ℕ) (m : Memories) (k : Control) (b c : ℕ) 
 
   glyph-counted : (a : ℕ) (h : a < 256) → 0x40 ≤ a → a < 0x80 →
       itemCounts e (from false (k .entry .s) false (k .place .waiting)) (instruction a h ∷ datum b p ∷ datum c q ∷ [])
-      ≡ allIf (k .standby) (countNamed wide (k .view) (m .text) (Cells (counterCell (k .place)) Nowhere))
-      ∷ countNamed wide (k .view) (m .text) (GlyphHalf (bits5-0 a) false)
-      ∷ countNamed wide (k .view) (m .text) (GlyphHalf (bits5-0 a) true)
+      ≡ allIf (k .standby) (size (Cells (counterCell (k .place)) Nowhere))
+      ∷ size (GlyphHalf (bits5-0 a) false)
+      ∷ size (GlyphHalf (bits5-0 a) true)
       ∷ []
   unfolding itemCounts performed carriedOut executed written stored obeyed moved movedOn instructionNames writeNames
   glyph-counted a h low high =
-      let more = countNamed wide (k .view) (m .text) (GlyphHalf (bits5-0 a) false) ∷ countNamed wide (k .view) (m .text) (GlyphHalf (bits5-0 a) true) ∷ [] in
+      let more = size (GlyphHalf (bits5-0 a) false) ∷ size (GlyphHalf (bits5-0 a) true) ∷ [] in
       rw (says-glyph (k .place .target) a low high)
       (ap (λ (n : ℕ). n ∷ more) (waking (k .view) (m .text) (k .standby) (Cells (counterCell (k .place)) Nowhere)))
 
@@ -117,23 +117,23 @@ module _ (e : Seen) (frame : List ℕ) (m : Memories) (k : Control) (b c : ℕ) 
   graphic-counted : (y x : ℕ) (h : y < 256) (i : x < 256) → 0x80 ≤ y → 0x80 ≤ x →
       itemCounts e (from true (k .entry .s) (k .sr) Nothing) (instruction y h ∷ instruction x i ∷ datum b p ∷ datum c q ∷ [])
       ≡ allIf (k .standby) 0
-      ∷ countNamed wide (k .view) (m .text) (Cells (counterCell (k .place)) Nowhere)
-      ∷ countNamed wide (k .view) (m .text) (GraphicHalf (bits5-0 y) (bits3-0 x) false)
-      ∷ countNamed wide (k .view) (m .text) (GraphicHalf (bits5-0 y) (bits3-0 x) true)
+      ∷ size (Cells (counterCell (k .place)) Nowhere)
+      ∷ size (GraphicHalf (bits5-0 y) (bits3-0 x) false)
+      ∷ size (GraphicHalf (bits5-0 y) (bits3-0 x) true)
       ∷ []
   unfolding itemCounts performed carriedOut executed written stored obeyed moved movedOn instructionNames writeNames
   graphic-counted y x h i low low' =
       let row : bits5-0 (bits5-0 y) ≡ bits5-0 y = omega arith in
       let column : bits3-0 (bits5-0 x) ≡ bits3-0 x = omega arith in
       let more =
-      countNamed wide (k .view) (m .text) (Cells (counterCell (k .place)) Nowhere)
-      ∷ countNamed wide (k .view) (m .text) (GraphicHalf (bits5-0 y) (bits3-0 x) false)
-      ∷ countNamed wide (k .view) (m .text) (GraphicHalf (bits5-0 y) (bits3-0 x) true)
+      size (Cells (counterCell (k .place)) Nowhere)
+      ∷ size (GraphicHalf (bits5-0 y) (bits3-0 x) false)
+      ∷ size (GraphicHalf (bits5-0 y) (bits3-0 x) true)
       ∷ [] in
       rw (says-graphic (k .sr) (k .place .target) y low h, says-graphic (k .sr) (k .place .target) x low' i, row, column)
       (ap (λ (n : ℕ). n ∷ more)
       (waking (k .view) (m .text) (k .standby) region.Nothing
-      ∙ ap (λ (n : ℕ). if k .standby then 1024 else n) (none-named (k .view) (m .text))))
+      ∙ ap (λ (n : ℕ). if k .standby then 1024 else n) (none-counted (k .view) (m .text))))
 
 -- no function set is among these writes
 module _ (dl : Bool) (b c : ℕ) (p : b < 256) (q : c < 256) where
