@@ -1,7 +1,7 @@
 -- What items count: at the last of an item's calls, so their sum; and the same of lists that are alike.
 use Prim.Native.Nat.{ℕ, _-_}
 use mathlib.Core.List.{List, [], _∷_, _++_, map}
-use mathlib.Core.Path.{_≡_, refl, ap}
+use mathlib.Core.Path.{_≡_, refl, ap, _∙_}
 use native.Mathlib.Omega.{arith}
 use lib.ListN.{take, drop, replicate}
 use Rattle.controller.specs.Transfers.{performed}
@@ -32,9 +32,12 @@ pub sums-back : (e : Seen) (way : Way) (list : List Item) (b : Board) →
 unfolding byItem atLast itemCounts
 sums-back e way [] b = refl
 sums-back e way (item ∷ list) b =
-    rw (sum-at-last _ _ way item, past-last _ (atLast way list (itemCounts e (board e .perform b (deed item) .state) list)) way item)
-    (ap (λ (ns : List ℕ). countOf (performed (b .memories) (b .control) (deed item)) ∷ ns)
-    (sums-back e way list (board e .perform b (deed item) .state)))
+    let n = countOf (performed (b .memories) (b .control) (deed item)) in
+    let more = atLast way list (itemCounts e (board e .perform b (deed item) .state) list) in
+    let calls = replicate (callsFor way item - 1) 0 ++ (n ∷ more) in
+    ap (λ (k : ℕ). k ∷ map sum (byItem way list (drop (callsFor way item) calls))) (sum-at-last n more way item)
+    ∙ ap (λ (ns : List ℕ). n ∷ map sum (byItem way list ns)) (past-last n more way item)
+    ∙ ap (λ (ns : List ℕ). n ∷ ns) (sums-back e way list (board e .perform b (deed item) .state))
 
 -- lists that are alike count the same
 pub counts-agree : (e : Seen) (s t : Board) (list others : List Item) → boardButDl s ≡ boardButDl t → Alike list others →
