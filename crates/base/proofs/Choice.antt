@@ -17,8 +17,3 @@ either-told P false p q = q refl
 pub by-test : {P : Type 0} (t : Bool) → (t ≡ true → P) → (t ≡ false → P) → P
 by-test true p q = p refl
 by-test false p q = q refl
-
--- a choice between the answers of one function
-pub choice-of : {A : Type 0} (f : Bool → A) (t : Bool) → (if t then f true else f false) ≡ f t
-choice-of f true = refl
-choice-of f false = refl

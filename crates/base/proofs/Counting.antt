@@ -48,18 +48,6 @@ count-disjoint (suc n) P Q e = last (P n) (Q n) (e n (omega arith)) (count-disjo
     last false true d h = omega arith
     last false false d h = omega arith
 
--- a set whose places are all in another
-pub count-sub : (n : ℕ) (P Q : ℕ → Bool) → ((i : ℕ) → i < n → P i ≡ true → Q i ≡ true) → count n P ≤ count n Q
-unfolding count
-count-sub zero P Q h = omega arith
-count-sub (suc n) P Q h = last (P n) (Q n) (h n (omega arith)) (count-sub n P Q (λ i l. h i (omega arith)))
-  where
-    last : (p q : Bool) → (p ≡ true → q ≡ true) → count n P ≤ count n Q → count n P + (if p then 1 else 0) ≤ count n Q + (if q then 1 else 0)
-    last true true e l = omega arith
-    last true false e l = absurd (true≢false (sym (e refl)))
-    last false true e l = omega arith
-    last false false e l = omega arith
-
 -- the places of either of two sets
 pub count-or-le : (n : ℕ) (P Q : ℕ → Bool) → count n (λ i. P i || Q i) ≤ count n P + count n Q
 unfolding count

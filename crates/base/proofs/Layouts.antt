@@ -7,7 +7,6 @@ use native.Mathlib.Omega.{arith}
 use lib.ListN.{length, set}
 use lib.Dec.{eqb}
 use borrow.Author.Tests.{eqb-true, eq-eqb}
-use Rattle.base.specs.Painting.{painted, count, everywhere, between}
 use Rattle.base.specs.Layout.{Layout, on, wholeOn, paintedOn, countOn, rows, columns}
 use Rattle.base.proofs.Tests.{alike, never, and-both}
 use Rattle.base.proofs.Counting.{count-cong, count-one, count-disjoint}
@@ -30,6 +29,15 @@ module _ (P : ℕ → ℕ → Bool) where
 
   pub of-rows : (first end r c : ℕ) → first ≤ r → r < end → P r c ≡ true → rows first end P r c ≡ true
   of-rows first end r c l h e = of-between first end (λ x. P x c) r l h e
+
+  pub columns-none : (n r c : ℕ) → columns n n P r c ≡ false
+  columns-none n r c = between-none (P r) n c
+
+  pub columns-join : (a n m r c : ℕ) → a ≤ n → n ≤ m → columns a m P r c ≡ (columns a n P r c || columns n m P r c)
+  columns-join a n m r c k l = between-join (P r) a n m c k l
+
+  pub columns-apart : (a n m r c : ℕ) → (columns a n P r c && columns n m P r c) ≡ false
+  columns-apart a n m r c = between-apart (P r) a n m c
 
   pub in-columns : (first end r c : ℕ) → columns first end P r c ≡ true → (first ≤ c) × (c < end) × (P r c ≡ true)
   in-columns first end r c e = in-between first end (P r) c e

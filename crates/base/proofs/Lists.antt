@@ -3,7 +3,7 @@ use lib.Dec.{leb}
 use borrow.Author.Tests.{leb-true, leb-false}
 use mathlib.Core.Bool.{Bool, true, false}
 use Prim.Native.Nat.{ℕ, zero, suc, _+_, _<_, min}
-use mathlib.Core.Path.{_≡_, refl, sym, ap, ap₂, _∙_, subst}
+use mathlib.Core.Path.{_≡_, refl, sym, ap, _∙_, subst}
 use mathlib.Core.List.{List, [], _∷_, _++_}
 use native.Mathlib.Nat.{add-zero, not-suc-le-zero, le-of-suc-le-suc, min-eq-left, min-eq-right, le-of-lt}
 use native.Mathlib.Omega.{arith}
@@ -31,10 +31,6 @@ is-upto n f l e g =
 -- two such lists with equal elements are equal
 pub upto-cong : (n : ℕ) (f g : ℕ → ℕ) → ((i : ℕ) → i < n → f i ≡ g i) → upto n f ≡ upto n g
 upto-cong n f g e = is-upto n g (upto n f) (length-upto n f) (λ i h. getD-upto n f i h ∙ e i h)
-
--- every list is such a list
-pub upto-getD : (l : List ℕ) → l ≡ upto (length l) (λ i. getD l i 0)
-upto-getD l = is-upto (length l) (λ i. getD l i 0) l refl (λ i h. refl)
 
 -- to drop more than there is, is to drop all there is
 pub drop-min : {A : Type 0} (n : ℕ) (s : List A) → drop (min n (length s)) s ≡ drop n s

@@ -1,6 +1,6 @@
--- Painting loops: turn by turn from place to place, each turn painting and counting the named places that it passes.
+-- Painting loops: turn by turn from place to place, each turn painting the named places that it passes.
 use Prim.Native.Nat.{ℕ, _+_, _<_, _≤_}
-use mathlib.Core.Path.{_≡_, refl, sym, ap, ap₂, _∙_}
+use mathlib.Core.Path.{_≡_, refl, sym, ap, _∙_}
 use mathlib.Core.Logic.{_≢_, ⊎-elim}
 use mathlib.Core.Bool.{Bool, true, false, _&&_, _||_, true≢false}
 use mathlib.Core.List.{List}
@@ -9,9 +9,8 @@ use lib.ListN.{length, set}
 use lib.Dec.{eqb, leb, ltb}
 use borrow.Author.Tests.{eqb-true, eqb-false, eq-eqb, ltb-true, leb-true, lt-ltb, le-leb}
 use Rattle.base.specs.Lists.{upto}
-use Rattle.base.specs.Painting.{painted, count, everywhere, between}
+use Rattle.base.specs.Painting.{painted, everywhere, between}
 use Rattle.base.proofs.Tests.{alike, never, and-both, or-either, or-else}
-use Rattle.base.proofs.Counting.{count-cong, count-none, count-one, count-disjoint}
 use Rattle.base.proofs.Painting.{painted-same, painted-none, painted-one, painted-or, painted-all, painted-length}
 
 pub in-between : (low high : ℕ) (P : ℕ → Bool) (i : ℕ) → between low high P i ≡ true → (low ≤ i) × (i < high) × (P i ≡ true)
@@ -64,54 +63,12 @@ module _ (P : ℕ → Bool) where
     pub paint-end : (g : List ℕ) (n : ℕ) → length f ≤ n → g ≡ painted (between 0 n P) b f → g ≡ painted P b f
     paint-end g n l c = c ∙ painted-same (between 0 n P) P b f (λ i h. between-all n i (omega arith))
 
-  -- the places below s counted, likewise
-  module _ (s : ℕ) where
-    pub count-begin : (a : ℕ) → 0 ≡ count s (between a a P)
-    count-begin a = sym (count-none s _ (λ i l. between-none a i))
-
-    pub count-step : (x y a n m : ℕ) → a ≤ n → n ≤ m → x ≡ count s (between a n P) → y ≡ count s (between n m P) → x + y ≡ count s (between a m P)
-    count-step x y a n m h l d k =
-        ap₂ _+_ d k
-        ∙ sym (count-cong s _ _ (λ i z. between-join a n m i h l) ∙ count-disjoint s (between a n P) (between n m P) (λ i z. between-apart a n m i))
-
-    pub count-end : (x n : ℕ) → s ≤ n → x ≡ count s (between 0 n P) → x ≡ count s P
-    count-end x n l d = d ∙ count-cong s (between 0 n P) P (λ i h. between-all n i (omega arith))
-
-  -- a loop that does both, from place 0 on
-  module _ (b : ℕ → ℕ) (f : List ℕ) (s : ℕ) where
-    pub loop-begin : (f ≡ painted (between 0 0 P) b f) × (0 ≡ count s (between 0 0 P))
-    loop-begin = (paint-begin b f 0, count-begin s 0)
-
-    pub loop-step : (g h : List ℕ) (n m x y : ℕ) → n ≤ m
-        → g ≡ painted (between 0 n P) b f → x ≡ count s (between 0 n P) → h ≡ painted (between n m P) b g → y ≡ count s (between n m P)
-        → (h ≡ painted (between 0 m P) b f) × (x + y ≡ count s (between 0 m P))
-    loop-step g h n m x y l c d e k = (paint-step b f g h 0 n m (omega arith) l c e, count-step s x y 0 n m (omega arith) l d k)
-
-    pub loop-end : (g : List ℕ) (n x : ℕ) → length f ≤ n → s ≤ n
-        → g ≡ painted (between 0 n P) b f → x ≡ count s (between 0 n P) → (g ≡ painted P b f) × (x ≡ count s P)
-    loop-end g n x l k c d = (paint-end b f g n l c, count-end s x n k d)
-
-  -- a turn that passes no named place
-  pub turn-none : (n m i : ℕ) → ((j : ℕ) → n ≤ j → j < m → P j ≡ false) → between n m P i ≡ false
-  turn-none n m i h = never _ (λ e. let q = in-between n m P i e in true≢false (sym (q .2) ∙ h i (q .0) (q .1)))
-
 -- two neighbours, stored one after the other
 pub pair-painted : (a : ℕ) (b : ℕ → ℕ) (f : List ℕ) → a + 1 < length f
     → set (set f a (b a)) (a + 1) (b (a + 1)) ≡ painted (λ i. eqb i a || eqb i (a + 1)) b f
 pair-painted a b f h =
     ap (λ (g : List ℕ). set g (a + 1) (b (a + 1))) (painted-one a b f (omega arith))
     ∙ painted-one (a + 1) b (painted (λ i. eqb i a) b f) (rw painted-length h) ∙ painted-or (λ i. eqb i a) (λ i. eqb i (a + 1)) b f
-
-pub pair-count : (s a : ℕ) → a + 1 < s → count s (λ i. eqb i a || eqb i (a + 1)) ≡ 2
-pair-count s a h =
-    count-disjoint s (λ i. eqb i a) (λ i. eqb i (a + 1)) (λ i l. apart i)
-    ∙ ap₂ _+_ (count-one s a (omega arith)) (count-one s (a + 1) h)
-  where
-    apart : (i : ℕ) → (eqb i a && eqb i (a + 1)) ≡ false
-    apart i = never _ (λ e. let q = and-both (eqb i a) (eqb i (a + 1)) e in
-        let x = eqb-true i a (q .0) in
-        let y = eqb-true i (a + 1) (q .1) in
-        omega arith)
 
 -- a turn that passes two neighbours, both named
 pub turn-pair : (P : ℕ → Bool) (a : ℕ) → P a ≡ true → P (a + 1) ≡ true → (i : ℕ) → between a (a + 2) P i ≡ (eqb i a || eqb i (a + 1))

@@ -103,15 +103,6 @@ painted-old P b old n e =
     by true h = refl
     by false h = sym (h refl)
 
--- a frame with its places arranged anew: the byte at place i is the old frame's at place m i
-pub painted-moved : (m : ℕ → ℕ) (n : ℕ) (P : ℕ → Bool) (b : ℕ → ℕ) (f : List ℕ) → ((i : ℕ) → i < n → m i < length f)
-    → painted (λ i. P (m i)) (λ i. b (m i)) (upto n (λ i. getD f (m i) 0)) ≡ upto n (λ i. getD (painted P b f) (m i) 0)
-painted-moved m n P b f h =
-    let arranged = upto n (λ i. getD f (m i) 0) in
-    is-upto n _ (painted (λ i. P (m i)) (λ i. b (m i)) arranged) (painted-length _ _ arranged ∙ length-upto n _)
-    (λ i l. let k : i < length arranged = subst (λ (z : ℕ). i < z) (sym (length-upto n _)) l in
-    painted-at _ _ arranged i k ∙ ap (λ (z : ℕ). if P (m i) then b (m i) else z) (getD-upto n _ i l) ∙ sym (painted-at P b f (m i) (h i l)))
-
 -- painting with what is there changes nothing
 pub painted-kept : (P : ℕ → Bool) (f : List ℕ) → f ≡ painted P (λ i. getD f i 0) f
 painted-kept P f = is-painted P (λ i. getD f i 0) f f refl (λ i l. by (P i))

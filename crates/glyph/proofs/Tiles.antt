@@ -1,14 +1,13 @@
 -- Tiles: two bytes to a row, from a block, from two columns, row by row.
-use Prim.Native.Nat.{ℕ, zero, _+_, _*_, _-_, _/_, _%_, _<_, _≤_}
+use Prim.Native.Nat.{ℕ, zero, _+_, _*_, _-_, _/_, _%_, _<_}
 use mathlib.Core.Path.{_≡_, refl, sym, ap, ap₂, _∙_}
 use mathlib.Core.Logic.{_≢_}
-use mathlib.Core.Bool.{Bool, true, false, _&&_}
+use mathlib.Core.Bool.{Bool, true, false}
 use mathlib.Core.List.{List}
 use native.Mathlib.Omega.{arith}
 use lib.ListN.{length, getD, set, replicate}
-use lib.Dec.{eqb, leb}
+use lib.Dec.{leb}
 use borrow.Author.Tests.{eqb-true, eqb-false, eq-eqb, ne-eqb, leb-true}
-use Rattle.base.specs.Choice.{if_then_else_}
 use Rattle.base.specs.Lists.{upto}
 use Rattle.base.specs.Painting.{painted, everywhere, between}
 use Rattle.base.proofs.Choice.{by-test}

@@ -1,6 +1,5 @@
 // One byte of the dots of what a cell shows.
 use crate::Content;
-use controller::places::half as half_of;
 ghost use mathlib.Core.Path.{_≡_};
 ghost use Prim.Native.Nat.{_+_, _*_, _<_, _≤_};
 ghost use lib.ListN.{length};
@@ -13,7 +12,7 @@ fn image_byte(i: u8, y: usize, right: bool, glyph: &[u8; 128]) -> u8
     requires { ⌜ (i < 4) × (y < 16) ⌝ }
     ensures { λ r. ⌜ r ≡ imageByte (now (glyph .entry)) i y right ⌝ }
 {
-    let at = 2 * (16 * (i as usize) + y) + half_of(right);
+    let at = 2 * (16 * (i as usize) + y) + controller::places::half(right);
     glyph[at]
 }
 
@@ -22,7 +21,7 @@ fn full_byte(n: u16, y: usize, right: bool, full: &[u8]) -> u8
     requires { ⌜ (32 * n + 32 ≤ length (now full)) × (y < 16) ⌝ }
     ensures { λ r. ⌜ r ≡ fullByte (now (full .entry)) n y right ⌝ }
 {
-    let at = 32 * (n as usize) + 2 * y + half_of(right);
+    let at = 32 * (n as usize) + 2 * y + controller::places::half(right);
     full[at]
 }
 

@@ -2,31 +2,31 @@
 use Prim.Native.Nat.{ℕ, _+_, _*_, _-_, _/_, _%_, _<_, _≤_}
 use mathlib.Core.Path.{_≡_, refl, sym, ap, ap₂, _∙_}
 use mathlib.Core.Logic.{_≢_, ⊎-elim}
-use mathlib.Core.Bool.{Bool, true, false, not, _&&_, _||_}
+use mathlib.Core.Bool.{Bool, true, false, _&&_, _||_}
 use mathlib.Core.List.{List}
 use native.Mathlib.Omega.{arith}
 use native.Mathlib.Nat.{add-zero}
 use lib.ListN.{length, getD, set}
 use lib.Dec.{eqb, ltb}
 use lib.Bits.{bitXor}
-use borrow.Author.Tests.{eqb-true, eqb-false, eq-eqb, ne-eqb, ltb-true, ltb-false}
+use borrow.Author.Tests.{eqb-true, eqb-false, eq-eqb, ltb-true, ltb-false}
 use Rattle.base.specs.Choice.{if_then_else_}
 use Rattle.base.specs.Lists.{upto}
 use Rattle.base.specs.Painting.{painted, everywhere, between}
-use Rattle.base.specs.Layout.{on, wholeOn, paintedOn}
+use Rattle.base.specs.Layout.{on, paintedOn}
 use Rattle.base.proofs.Choice.{either-told}
 use Rattle.base.proofs.Tests.{alike, and-both, or-either, or-else}
 use Rattle.base.proofs.Lists.{getD-upto, upto-cong}
 use Rattle.base.proofs.Painting.{painted-named, painted-same, painted-cong, painted-twice, painted-upto, as-long}
 use Rattle.base.proofs.Loops.{in-between, of-between, paint-step}
-use Rattle.base.proofs.Copies.{one-further, two-further, not-yet}
+use Rattle.base.proofs.Copies.{one-further, not-yet}
 use Rattle.picture.specs.declared.Look.{Look}
 use Rattle.controller.specs.Memories.{Memories, half}
 use Rattle.controller.specs.Glass.{shownRow, shownWord}
-use Rattle.picture.specs.Picture.{Fonts, right, atCounter, effectsOf, cellByte, graphicByte, filled, inverted, overlaid, darkened, shaded, byteOver, byteAt, wide, picture}
+use Rattle.picture.specs.Picture.{Fonts, right, effectsOf, cellByte, graphicByte, filled, inverted, overlaid, darkened, shaded, byteOver, byteAt, wide, picture}
 use Rattle.picture.specs.Tiles.{counterWord, wordDots, lineWord, tileByte, byTile, fromTiles, inRows, bandEnd, shownBy, pairBy}
 use Rattle.picture.specs.declared.Pair.{Pair}
-use Rattle.picture.proofs.Bytes.{counter-here, shown-word-lt}
+use Rattle.picture.proofs.Bytes.{counter-here}
 use Rattle.picture.proofs.Unread.{half-right}
 use Rattle.picture.proofs.Wide.{rows-lie}
 

@@ -4,5 +4,4 @@ pub mod Wide
 pub mod Bytes
 pub mod Accepted
 pub mod Masks
-pub mod Commute
 pub mod Laid

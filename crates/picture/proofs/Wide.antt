@@ -1,18 +1,17 @@
 -- The wide glass: the byte of each of 32 rows and 32 columns has its place, two bytes of a row lie side by side; and a row of a cell is two bytes.
-use Prim.Native.Nat.{ℕ, _+_, _*_, _/_, _%_, _<_, _≤_}
+use Prim.Native.Nat.{ℕ, _+_, _*_, _/_, _%_, _<_}
 use mathlib.Core.Path.{_≡_, refl, sym, ap, _∙_}
 use mathlib.Core.Logic.{_≢_, ⊎-elim}
-use mathlib.Core.Bool.{true, false, _||_}
+use mathlib.Core.Bool.{true}
 use mathlib.Core.List.{List}
 use native.Mathlib.Omega.{arith}
 use lib.ListN.{length, getD}
 use lib.Dec.{eqb}
 use borrow.Author.Tests.{eqb-true, eqb-false, eq-eqb}
-use Rattle.base.specs.Lists.{upto}
-use Rattle.base.specs.Painting.{painted, everywhere, between}
-use Rattle.base.specs.Layout.{Layout, on, wholeOn, paintedOn, countOn, rows}
+use Rattle.base.specs.Painting.{everywhere, between}
+use Rattle.base.specs.Layout.{Layout, on, wholeOn, paintedOn, countOn}
 use Rattle.base.proofs.Tests.{alike, and-both, or-either, or-else}
-use Rattle.base.proofs.Lists.{length-upto, getD-upto}
+use Rattle.base.proofs.Lists.{getD-upto}
 use Rattle.base.proofs.Counting.{count-cong}
 use Rattle.base.proofs.Painting.{painted-same, painted-none, painted-or, painted-all}
 use Rattle.base.proofs.Loops.{in-between, of-between}
@@ -34,11 +33,7 @@ wide-placed =
       column-within = λ i h. omega arith;
     }
 
--- the picture has as many bytes as the layout, each that of its row and column
-pub picture-length : (l : Layout) (e : Fonts) (m : Memories) (look : Look) → length (picture l e m look) ≡ l .size
-unfolding picture
-picture-length l e m look = length-upto (l .size) _
-
+-- each byte of the picture is that of its row and column
 pub picture-at : (l : Layout) (e : Fonts) (m : Memories) (look : Look) (i : ℕ) → i < l .size → getD (picture l e m look) i 0 ≡ on l (byteAt e m look) i
 unfolding picture
 picture-at l e m look i h = getD-upto (l .size) _ i h

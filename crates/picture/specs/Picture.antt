@@ -1,6 +1,6 @@
 -- Document 01, "The picture": 32 rows of 32 bytes, bit 7 leftmost. Each byte is given by its row and column, in the document's order:
 -- glyph, cursor, blink, line reverse, graphic, display.
-use Prim.Native.Nat.{ℕ, _+_, _*_, _-_, _/_, _%_}
+use Prim.Native.Nat.{ℕ, _-_, _/_, _%_}
 use mathlib.Core.Bool.{Bool, true, false, not, _&&_, _||_}
 use mathlib.Core.List.{List}
 use lib.ListN.{length, getD}

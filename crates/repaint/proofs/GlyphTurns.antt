@@ -33,12 +33,6 @@ unfolding wordImage
 word-shows text word number e t = rw (add-zero (2 * word)) (ap (λ (i : Image). isImage i number) (sym t ∙ e))
 
 -- the two rows of the glass that show a glyph row
-pub glyph-row-first : (word scroll : ℕ) → scroll < 256 → ((word % 16 + 256 - scroll) % 16 + scroll) % 64 % 16 ≡ word % 16
-glyph-row-first word scroll h = omega arith
-
-pub glyph-row-second : (word scroll : ℕ) → scroll < 256 → ((word % 16 + 256 - scroll) % 16 + 16 + scroll) % 64 % 16 ≡ word % 16
-glyph-row-second word scroll h = omega arith
-
 sixteenths : (x : ℕ) → x % 16 ≡ x % 64 % 16
 sixteenths x = omega arith
 

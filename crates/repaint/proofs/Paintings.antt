@@ -9,8 +9,7 @@ use Rattle.base.specs.Painting.{painted}
 use Rattle.base.specs.Layout.{Layout, on, rows, columns}
 use Rattle.base.proofs.Counting.{count-cong, count-none, count-le, count-disjoint}
 use Rattle.base.proofs.Painting.{painted-length, painted-same, painted-none, painted-or}
-use Rattle.base.proofs.Loops.{between-none, between-join, between-apart}
-use Rattle.base.proofs.Layouts.{Placed, only, rows-none, rows-join, rows-apart, byte-painted, byte-counted}
+use Rattle.base.proofs.Layouts.{Placed, only, rows-none, rows-join, rows-apart, columns-none, columns-join, columns-apart, byte-painted, byte-counted}
 use Rattle.repaint.specs.Repaint.{painting, paints, paintsOn}
 use Rattle.repaint.proofs.Records.{painting-both, painting-count, painting-frame}
 
@@ -69,14 +68,14 @@ module _ (l : Layout) (P : ℕ → ℕ → Bool) (b : ℕ → ℕ → ℕ) (f : 
 
   pub columns-begin : (n : ℕ) → painting 0 f ≡ paintsOn l (columns n n P) b f
   columns-begin n =
-      painting-both (sym (count-none (l .size) _ (λ i h. between-none (P (l .row i)) n (l .column i))))
-      (sym (painted-none _ (on l b) f (λ i h. between-none (P (l .row i)) n (l .column i))))
+      painting-both (sym (count-none (l .size) _ (λ i h. columns-none P n (l .row i) (l .column i))))
+      (sym (painted-none _ (on l b) f (λ i h. columns-none P n (l .row i) (l .column i))))
 
   pub columns-step : (g h : List ℕ) (a n m x y : ℕ) → a ≤ n → n ≤ m → painting x g ≡ paintsOn l (columns a n P) b f
       → painting y h ≡ paintsOn l (columns n m P) b g → painting (x + y) h ≡ paintsOn l (columns a m P) b f
   columns-step g h a n m x y k z c e =
       paints-parts (l .size) (on l (columns a n P)) (on l (columns n m P)) (on l (columns a m P)) (on l b) f g h x y
-      (λ i. between-join (P (l .row i)) a n m (l .column i) k z) (λ i. between-apart (P (l .row i)) a n m (l .column i)) c e
+      (λ i. columns-join P a n m (l .row i) (l .column i) k z) (λ i. columns-apart P a n m (l .row i) (l .column i)) c e
 
 -- one byte
 pub paints-byte :

@@ -1,8 +1,7 @@
 -- The numbers that a transfer's region carries lie within the memories, where the controls lie within their ranges.
-use Prim.Native.Nat.{ℕ, _<_}
-use mathlib.Core.Bool.{Bool, true, false, not, _&&_}
+use Prim.Native.Nat.{_<_}
+use mathlib.Core.Bool.{not, _&&_}
 use mathlib.Core.Path.{_≡_, refl, subst}
-use Rattle.base.specs.Choice.{if_then_else_}
 use Rattle.base.proofs.Choice.{either}
 use Rattle.table.specs.declared.Target.{Target}
 use Rattle.table.specs.declared.Target.the-variants.{Text, Glyph, Graphic}
@@ -10,13 +9,10 @@ use Rattle.table.specs.declared.Touch.{Touch}
 use Rattle.table.specs.declared.Touch.the-variants as touch
 use Rattle.controller.specs.declared.Waiting.{Waiting}
 use Rattle.controller.specs.declared.Waiting.the-variants as waiting
-use Rattle.controller.specs.declared.Place.{Place}
 use Rattle.controller.specs.declared.Control.{Control}
-use Rattle.controller.specs.declared.Cell.{Cell}
-use Rattle.controller.specs.declared.Cell.the-variants.{Nowhere, Word}
 use Rattle.controller.specs.State.{InRange, limit}
 use Rattle.controller.specs.Data.{isText, completes, shifts}
-use Rattle.controller.specs.Named.{counterCell, bothCells, addressNames, touchNames, instructionNames, writeByTarget, writeNames, readNames}
+use Rattle.controller.specs.Named.{bothCells, addressNames, touchNames, instructionNames, writeByTarget, writeNames, readNames}
 use Rattle.controller.proofs.Ranges.{counter-64}
 use Rattle.repaint.specs.Repaint.{cellWithin, regionWithin}
 

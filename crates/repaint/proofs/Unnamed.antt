@@ -13,7 +13,6 @@ use Rattle.table.specs.declared.Target.{Target}
 use Rattle.table.specs.declared.Target.the-variants.{Text, Glyph, Graphic}
 use Rattle.table.specs.declared.Instruction.{Instruction}
 use Rattle.table.specs.declared.Instruction.the-variants.{Ignored, Clear, Home, EntryMode, Display, MoveCursor, MoveDisplay, FunctionSet, GlyphAddress, TextAddress, Standby, SetSr, ToggleReverse, Scroll, GraphicAddress}
-use Rattle.table.specs.Table.{said}
 use Rattle.table.specs.Touches.{touches}
 use Rattle.controller.specs.declared.Waiting.{Waiting}
 use Rattle.controller.specs.declared.Waiting.the-variants as waiting
@@ -23,17 +22,17 @@ use Rattle.controller.specs.declared.Control.{Control}
 use Rattle.controller.specs.declared.Cell.{Cell}
 use Rattle.controller.specs.declared.Cell.the-variants.{Nowhere, Word}
 use Rattle.controller.specs.declared.Region.{Region}
-use Rattle.controller.specs.declared.Region.the-variants.{Nothing, Whole, Cells, GlyphHalf, GraphicHalf}
+use Rattle.controller.specs.declared.Region.the-variants.{Nothing, Whole, Cells}
 use Rattle.controller.specs.declared.Done.{Done}
 use Rattle.controller.specs.Memories.{Memories, memories}
 use Rattle.controller.specs.State.{InRange, limit}
-use Rattle.controller.specs.Instructions.{withPlace, withView, withWaiting, pointed, begun, graphicAddressed, stepped, obeyed, cleared, modes}
+use Rattle.controller.specs.Instructions.{withPlace, begun, graphicAddressed, obeyed, cleared}
 use Rattle.controller.specs.Data.{isText, stored, nextCounter, counterAfter, moved, completes, shifts, movedOn, dummyRead}
 use Rattle.controller.specs.Glass.{shownWord}
-use Rattle.controller.specs.Named.{counterCell, bothCells, addressNames, touchNames, instructionNames, textNames, writeByTarget, writeNames, readNames, inCell, inSomeCell, covers}
-use Rattle.controller.specs.Transfers.{executed, written, readOut}
+use Rattle.controller.specs.Named.{counterCell, bothCells, addressNames, instructionNames, writeByTarget, writeNames, readNames, inCell, inSomeCell, covers}
+use Rattle.controller.specs.Transfers.{written, readOut}
 use Rattle.picture.specs.Picture.{Fonts, lookOf, atCounter, cellByte, graphicByte, byteAt}
-use Rattle.picture.proofs.Parts.{SameParts, equal-parts-equal-bytes}
+use Rattle.picture.proofs.Parts.{equal-parts-equal-bytes}
 use Rattle.repaint.proofs.Shows.{in-cell-shows, some-cell-shows}
 use Rattle.picture.proofs.Unread.{text-unread, glyph-unshown, graphic-unshown}
 

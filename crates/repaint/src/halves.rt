@@ -2,7 +2,6 @@
 use crate::ImageByte;
 use controller::Image;
 use controller::named::image;
-use controller::places::half as half_of;
 use picture::Look;
 use picture::paint::byte_at;
 use picture::paint::byte_over;
@@ -97,7 +96,7 @@ pub(crate) fn paint_glyph_half(
     requires { ⌜ (word < 64) × (length (now frame) ≡ 1024) ⌝ }
     ensures { λ r. ⌜ painting r (now (frame .exit)) ≡ paintsOn wide (showsGlyph (look .view) (now (text .entry)) word low) (byteOver (getD (now (glyph .entry)) (wordPlace word low) 0) (now (graphic .entry)) look) (now (frame .entry)) ⌝ }
 {
-    let at = 2 * (word as usize) + half_of(low);
+    let at = 2 * (word as usize) + controller::places::half(low);
     let part = ImageByte {
         word,
         low,

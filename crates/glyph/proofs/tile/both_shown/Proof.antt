@@ -1,6 +1,5 @@
 -- By the first.
 use borrow.Author.Needs.{needs}
-use native.Mathlib.Omega.{arith}
 use Rattle.glyph.proofs.tile.both_shown.Statement.{statement}
 use Rattle.glyph.proofs.tile.both_shown.Tie as tie
 

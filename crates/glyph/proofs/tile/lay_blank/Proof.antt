@@ -1,9 +1,7 @@
 -- The second sixteen after the first.
 use borrow.Author.Needs.{needs}
-use mathlib.Core.Path.{_≡_, refl}
-use Prim.Native.Nat.{ℕ, _<_}
 use Rattle.base.proofs.Copies.{blocks-laid}
-use lib.ListN.{getD, replicate}
+use lib.ListN.{replicate}
 use Rattle.glyph.proofs.Tiles.{zeros-at}
 use Rattle.glyph.proofs.tile.lay_blank.Statement.{statement}
 use Rattle.glyph.proofs.tile.lay_blank.Tie as tie

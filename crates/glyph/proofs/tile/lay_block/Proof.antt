@@ -1,6 +1,5 @@
 -- The second sixteen after the first.
 use borrow.Author.Needs.{needs}
-use native.Mathlib.Omega.{arith}
 use Rattle.glyph.proofs.Tiles.{block-laid}
 use Rattle.glyph.proofs.tile.lay_block.Statement.{statement}
 use Rattle.glyph.proofs.tile.lay_block.Tie as tie

@@ -1,6 +1,4 @@
 -- By the two ends.
-use borrow.Author.Needs.{needs}
-use native.Mathlib.Omega.{arith}
 use borrow.Author.Tests.{le-leb, lt-leb}
 use Rattle.glyph.proofs.tile.shown.Statement.{statement}
 use Rattle.glyph.proofs.tile.shown.Tie as tie

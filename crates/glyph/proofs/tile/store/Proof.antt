@@ -1,9 +1,9 @@
 -- Byte by byte.
 use borrow.Author.Needs.{needs}
 use native.Mathlib.Omega.{arith}
-use Prim.Native.Nat.{_+_, _*_, _-_, _/_, _≤_, _<_}
+use Prim.Native.Nat.{_+_, _-_, _≤_}
 use lib.ListN.{length, getD}
-use mathlib.Core.Path.{_≡_, refl}
+use mathlib.Core.Path.{_≡_}
 use Rattle.base.specs.Painting.{painted, everywhere, between}
 use Rattle.base.proofs.Copies.{none-yet, one-further, block-at}
 use Rattle.glyph.proofs.tile.store.Statement.{statement}

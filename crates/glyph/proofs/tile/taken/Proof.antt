@@ -1,8 +1,8 @@
 -- Byte by byte.
 use borrow.Author.Needs.{needs}
 use native.Mathlib.Omega.{arith}
-use Prim.Native.Nat.{_+_, _*_, _-_, _/_, _≤_, _<_}
-use lib.ListN.{length, getD}
+use Prim.Native.Nat.{_+_, _-_, _≤_, _<_}
+use lib.ListN.{getD}
 use mathlib.Core.Path.{_≡_, refl}
 use Rattle.base.specs.Painting.{painted, everywhere, between}
 use Rattle.base.proofs.Loops.{paint-begin, paint-every}

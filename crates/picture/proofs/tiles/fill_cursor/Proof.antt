@@ -1,10 +1,9 @@
 -- Two neighbours, if at all.
 use borrow.Author.Needs.{needs}
 use native.Mathlib.Omega.{arith}
-use Prim.Native.Nat.{ℕ, _+_, _*_, _-_, _/_, _%_, _≤_, _<_}
-use lib.ListN.{length, getD, length-set}
-use mathlib.Core.Path.{_≡_, refl, sym, ap, _∙_}
-use Rattle.base.specs.Painting.{painted, everywhere, between}
+use Prim.Native.Nat.{_-_}
+use lib.ListN.{length-set}
+use mathlib.Core.Path.{refl, sym}
 use Rattle.base.proofs.Loops.{pair-painted}
 use Rattle.base.proofs.Painting.{painted-none}
 use Rattle.picture.proofs.tiles.fill_cursor.Statement.{statement}

@@ -1,10 +1,7 @@
 -- If at all.
 use borrow.Author.Needs.{needs}
-use native.Mathlib.Omega.{arith}
-use Prim.Native.Nat.{ℕ, _+_, _*_, _-_, _/_, _%_, _≤_, _<_}
-use lib.ListN.{length, getD, length-set}
-use mathlib.Core.Path.{_≡_, refl, sym, ap, _∙_}
-use Rattle.base.specs.Painting.{painted, everywhere, between}
+use Prim.Native.Nat.{_-_}
+use mathlib.Core.Path.{refl, sym}
 use Rattle.base.proofs.Painting.{painted-none}
 use Rattle.picture.proofs.tiles.invert_if.Statement.{statement}
 use Rattle.picture.proofs.tiles.invert_if.Tie as tie

@@ -1,10 +1,7 @@
 -- Stage by stage.
 use borrow.Author.Needs.{needs}
 use native.Mathlib.Omega.{arith}
-use Prim.Native.Nat.{ℕ, _+_, _*_, _-_, _/_, _%_, _≤_, _<_}
-use lib.ListN.{length, getD, length-set}
-use mathlib.Core.Path.{_≡_, refl, sym, ap, _∙_}
-use Rattle.base.specs.Painting.{painted, everywhere, between}
+use Prim.Native.Nat.{_-_, _<_}
 use Rattle.picture.proofs.Laid.{line-marked}
 use Rattle.picture.proofs.tiles.lay_line.Statement.{statement}
 use Rattle.picture.proofs.tiles.lay_line.Tie as tie

@@ -1,6 +1,5 @@
 -- The tile of what the word shows.
 use borrow.Author.Needs.{needs}
-use native.Mathlib.Omega.{arith}
 use native.Mathlib.Nat.{add-zero}
 use Rattle.glyph.proofs.Inside.{content-inside}
 use Rattle.picture.specs.Picture.{wordContent}

@@ -1,6 +1,5 @@
 -- Nothing shows in the dark.
 use borrow.Author.Needs.{needs}
-use native.Mathlib.Omega.{arith}
 use Rattle.picture.proofs.tiles.lit.Statement.{statement}
 use Rattle.picture.proofs.tiles.lit.Tie as tie
 

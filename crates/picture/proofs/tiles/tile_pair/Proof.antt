@@ -1,6 +1,5 @@
 -- Both bytes lit.
 use borrow.Author.Needs.{needs}
-use native.Mathlib.Omega.{arith}
 use mathlib.Core.Path.{ap₂, _∙_}
 use Rattle.picture.proofs.Laid.{pairOf, pair-shown-by}
 use Rattle.picture.proofs.tiles.tile_pair.Statement.{statement}

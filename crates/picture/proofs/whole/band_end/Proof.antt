@@ -1,6 +1,5 @@
 -- By whether the line reaches the last row.
 use borrow.Author.Needs.{needs}
-use native.Mathlib.Omega.{arith}
 use borrow.Author.Tests.{lt-ltb, le-ltb}
 use Rattle.picture.specs.Tiles.{bandEnd}
 use Rattle.picture.proofs.whole.band_end.Statement.{statement}

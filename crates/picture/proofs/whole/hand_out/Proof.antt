@@ -1,9 +1,9 @@
 -- Row by row.
 use borrow.Author.Needs.{needs}
 use native.Mathlib.Omega.{arith}
-use Prim.Native.Nat.{ℕ, _+_, _*_, _-_, _/_, _%_, _≤_, _<_}
-use lib.ListN.{length, getD, length-set}
-use mathlib.Core.Path.{_≡_, refl, sym, ap, _∙_}
+use Prim.Native.Nat.{_+_, _*_, _-_, _/_, _%_, _≤_}
+use lib.ListN.{length}
+use mathlib.Core.Path.{_≡_, _∙_}
 use Rattle.base.specs.Painting.{painted, everywhere, between}
 use Rattle.base.proofs.Loops.{paint-begin}
 use Rattle.picture.specs.Tiles.{fromTiles}

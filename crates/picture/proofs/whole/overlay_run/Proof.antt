@@ -1,9 +1,9 @@
 -- Byte by byte.
 use borrow.Author.Needs.{needs}
 use native.Mathlib.Omega.{arith}
-use Prim.Native.Nat.{ℕ, _+_, _*_, _-_, _/_, _%_, _≤_, _<_}
+use Prim.Native.Nat.{_+_, _-_, _≤_}
 use lib.ListN.{length, getD, length-set}
-use mathlib.Core.Path.{_≡_, refl, sym, ap, _∙_}
+use mathlib.Core.Path.{_≡_}
 use Rattle.base.specs.Painting.{painted, everywhere, between}
 use lib.Bits.{bitXor}
 use Rattle.base.proofs.Copies.{none-yet}

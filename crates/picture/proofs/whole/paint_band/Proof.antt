@@ -1,10 +1,9 @@
 -- Stage by stage.
 use borrow.Author.Needs.{needs}
 use native.Mathlib.Omega.{arith}
-use Prim.Native.Nat.{ℕ, _+_, _*_, _-_, _/_, _%_, _≤_, _<_}
-use lib.ListN.{length, getD, length-set}
-use mathlib.Core.Path.{_≡_, refl, sym, ap, _∙_}
-use Rattle.base.specs.Painting.{painted, everywhere, between}
+use Prim.Native.Nat.{_+_, _-_, _%_, _≤_, _<_}
+use lib.ListN.{length}
+use mathlib.Core.Path.{ap, _∙_}
 use Rattle.controller.specs.Memories.{memories}
 use Rattle.base.proofs.Lists.{length-upto}
 use Rattle.base.proofs.Painting.{as-long}

@@ -1,12 +1,11 @@
 -- Dark, or band by band from the first row to the last.
 use borrow.Author.Needs.{needs}
 use native.Mathlib.Omega.{arith}
-use Prim.Native.Nat.{ℕ, _+_, _*_, _-_, _/_, _%_, _≤_, _<_}
-use lib.ListN.{length, getD, length-set}
-use mathlib.Core.Path.{_≡_, refl, sym, ap, _∙_}
+use Prim.Native.Nat.{_-_, _≤_}
+use lib.ListN.{length}
+use mathlib.Core.Path.{_≡_, _∙_}
 use Rattle.base.specs.Layout.{paintedOn}
-use Rattle.base.proofs.Painting.{as-long, painted-none}
-use Rattle.base.proofs.Layouts.{rows-none}
+use Rattle.base.proofs.Painting.{as-long}
 use Rattle.controller.specs.Memories.{memories}
 use Rattle.picture.specs.Picture.{byteAt, wide, picture}
 use Rattle.picture.specs.Tiles.{inRows}

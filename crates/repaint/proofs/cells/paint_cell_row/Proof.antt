@@ -1,9 +1,9 @@
 -- The pair goes into the two bytes that are lent, which are those of that row of the cell.
 use borrow.Author.Needs.{needs}
 use native.Mathlib.Omega.{arith}
-use Prim.Native.Nat.{ℕ, _+_, _*_, _-_, _/_, _%_, _≤_, _<_}
+use Prim.Native.Nat.{_+_, _*_, _-_, _≤_}
 use lib.ListN.{length}
-use mathlib.Core.Path.{_≡_, refl, sym, ap, _∙_}
+use mathlib.Core.Path.{_∙_}
 use Rattle.base.proofs.Parts.{put-pair}
 use Rattle.picture.specs.Tiles.{shownBy}
 use Rattle.picture.proofs.Wide.{cell-row-painted}

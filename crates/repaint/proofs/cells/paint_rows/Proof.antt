@@ -1,9 +1,9 @@
 -- Row by row.
 use borrow.Author.Needs.{needs}
 use native.Mathlib.Omega.{arith}
-use Prim.Native.Nat.{ℕ, _+_, _*_, _-_, _/_, _%_, _≤_, _<_}
+use Prim.Native.Nat.{_-_, _≤_}
 use lib.ListN.{length}
-use mathlib.Core.Path.{_≡_, refl, sym, ap, _∙_}
+use mathlib.Core.Path.{_≡_, _∙_}
 use Rattle.base.specs.Layout.{rows}
 use Rattle.base.proofs.Painting.{as-long}
 use Rattle.picture.specs.Picture.{wide}

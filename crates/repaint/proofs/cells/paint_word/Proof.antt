@@ -1,9 +1,9 @@
 -- Not at all, or on the rows that show its line.
 use borrow.Author.Needs.{needs}
 use native.Mathlib.Omega.{arith}
-use Prim.Native.Nat.{ℕ, _+_, _*_, _-_, _/_, _%_, _≤_, _<_}
+use Prim.Native.Nat.{_-_, _/_}
 use lib.ListN.{length}
-use mathlib.Core.Path.{_≡_, refl, sym, ap, _∙_}
+use mathlib.Core.Path.{sym, ap, _∙_}
 use Rattle.base.proofs.Lists.{length-upto}
 use Rattle.controller.specs.Memories.{memories}
 use Rattle.picture.specs.Picture.{byteAt}

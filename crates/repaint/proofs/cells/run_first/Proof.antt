@@ -1,6 +1,5 @@
 -- By where the line begins.
 use borrow.Author.Needs.{needs}
-use native.Mathlib.Omega.{arith}
 use borrow.Author.Tests.{lt-ltb, le-ltb}
 use Rattle.repaint.specs.Repaint.{runFirst}
 use Rattle.repaint.proofs.cells.run_first.Statement.{statement}

@@ -1,7 +1,7 @@
 -- Cell by cell.
 use borrow.Author.Needs.{needs}
 use native.Mathlib.Omega.{arith}
-use Prim.Native.Nat.{ℕ, _+_, _*_, _-_, _≤_}
+use Prim.Native.Nat.{_+_, _*_, _-_, _≤_}
 use lib.ListN.{length}
 use mathlib.Core.Path.{_≡_, _∙_}
 use Rattle.base.specs.Layout.{rows, columns}
