@@ -1,4 +1,3 @@
 pub mod Halves
 pub mod Ranges
 pub mod Kept
-pub mod Leaves

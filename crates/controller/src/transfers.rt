@@ -34,7 +34,7 @@ fn clear(text: &mut [u8; 128], touch: Touch)
 }
 
 // An instruction write. It is lent the text alone: whatever the other two memories hold, they stay.
-pub fn execute(text: &mut [u8; 128], control: Control, byte: u8) -> Done
+fn execute(text: &mut [u8; 128], control: Control, byte: u8) -> Done
     requires { ⌜ InRange control ⌝ }
     ensures { λ r. ⌜ ((glyph graphic : List ℕ) → acted (memories (now (text .exit)) glyph graphic) r ≡ executed (memories (now (text .entry)) glyph graphic) control byte) ⌝ }
     ensures valid { λ r. ⌜ InRange (r .control) ⌝ }
@@ -52,7 +52,7 @@ pub fn execute(text: &mut [u8; 128], control: Control, byte: u8) -> Done
 }
 
 // A data write: the byte goes into the next half.
-pub fn write(
+fn write(
     text: &mut [u8; 128],
     glyph: &mut [u8; 128],
     graphic: &mut [u8; 2048],
@@ -74,7 +74,7 @@ pub fn write(
 }
 
 // A data read: 0 if a dummy is due, else the next half.
-pub fn read(text: &[u8; 128], glyph: &[u8; 128], graphic: &[u8; 2048], control: Control) -> Done
+fn read(text: &[u8; 128], glyph: &[u8; 128], graphic: &[u8; 2048], control: Control) -> Done
     requires { ⌜ InRange control ⌝ }
     ensures { λ r. ⌜ r ≡ readOut (before text glyph graphic) control ⌝ }
     ensures valid { λ r. ⌜ InRange (r .control) ⌝ }
@@ -99,7 +99,7 @@ pub fn read(text: &[u8; 128], glyph: &[u8; 128], graphic: &[u8; 2048], control: 
 }
 
 // A status read: the counter, and nothing changes.
-pub fn status(control: Control) -> Done
+fn status(control: Control) -> Done
     ensures { λ r. ⌜ r ≡ statusRead control ⌝ }
 {
     Done {
