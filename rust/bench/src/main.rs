@@ -47,13 +47,20 @@ fn main() {
     match words[..] {
         [] => {
             draws::measure(&fonts, &screens);
+            replays::agree(&fonts);
             writes::measure();
             replays::measure(&fonts);
             programs::measure();
         }
         ["draws"] => draws::measure(&fonts, &screens),
-        ["writes"] => writes::measure(),
-        ["replays"] => replays::measure(&fonts),
+        ["writes"] => {
+            replays::agree(&fonts);
+            writes::measure()
+        }
+        ["replays"] => {
+            replays::agree(&fonts);
+            replays::measure(&fonts)
+        }
         ["programs"] => programs::measure(),
         ["pictures", folder] => passed = pictures::compare(folder, &fonts, &screens),
         ["screens", folder] => passed = pictures::raw(folder, &fonts, &screens),

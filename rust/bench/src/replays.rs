@@ -124,7 +124,7 @@ fn in_place(
 }
 
 /// Holds plain Rust in place to the proved code, so that what is timed does the same: random transfers, half bytes among them.
-fn agree(fonts: &Fonts) {
+pub fn agree(fonts: &Fonts) {
     let mut random = Random(0x5EED_0009);
     for turn in 0..200 {
         let mut capture = Vec::new();
@@ -155,7 +155,6 @@ fn agree(fonts: &Fonts) {
 }
 
 pub fn measure(fonts: &Fonts) {
-    agree(fonts);
     println!("\nNanoseconds for a record replayed over the boundary: captures of {RECORDS} such records, the middle of {BATCHES} replays, and from the 10th to the 90th in a hundred.\n");
     println!("| record | plain Rust in place | proved, by value |");
     println!("|---|---|---|");

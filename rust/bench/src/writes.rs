@@ -1,20 +1,37 @@
 //! Writes with their repaint, on memories that the caller keeps: the proved program `timing` against the same million turns in plain
-//! Rust in place. Both are timed from outside, in turn, and must print the same number.
+//! Rust in place. Both are timed from outside, in turn, by what the processor gave them, and must print the same number.
 use crate::timing::Times;
-use std::process::Command;
-use std::time::Instant;
+use std::io::Read;
+use std::process::{Command, Stdio};
+use std::time::Duration;
 
 /// Built for this processor by `tools/native`.
 const PROGRAM: &str = "target/native/timing";
 const RUNS: usize = 21;
 const TIMES: f64 = 1e6;
 
+/// Nanoseconds of the processor that a program had, told once it has ended and before it is waited for: what it waited for while others
+/// ran does not count.
+fn processor_time(pid: u32) -> Option<f64> {
+    let ended = || {
+        let status = std::fs::read_to_string(format!("/proc/{pid}/stat")).ok()?;
+        Some(status.contains(") Z "))
+    };
+    while !ended()? {
+        std::thread::sleep(Duration::from_millis(1));
+    }
+    let had = std::fs::read_to_string(format!("/proc/{pid}/schedstat")).ok()?;
+    had.split_whitespace().next()?.parse().ok()
+}
+
 /// Nanoseconds for one turn, over a whole run of the program, and what it printed.
 fn once(command: &mut Command) -> Option<(f64, Vec<u8>)> {
-    let start = Instant::now();
-    let output = command.output().ok()?;
-    let time = start.elapsed().as_nanos() as f64 / TIMES;
-    output.status.success().then_some((time, output.stdout))
+    let mut child = command.stdout(Stdio::piped()).spawn().ok()?;
+    let mut printed = Vec::new();
+    child.stdout.take()?.read_to_end(&mut printed).ok()?;
+    let time = processor_time(child.id());
+    let status = child.wait().ok()?;
+    status.success().then_some((time? / TIMES, printed))
 }
 
 /// The times of one thing, proved and plain.
