@@ -1,3 +1,4 @@
 pub mod Halves
 pub mod Ranges
 pub mod Kept
+pub mod Leaves
