@@ -7,10 +7,12 @@ use lib.ListN.{length, getD, set}
 use lib.Dec.{eqb}
 use borrow.Author.Tests.{eqb-true, eq-eqb}
 use Rattle.base.specs.Painting.{painted, everywhere, between}
+use Rattle.base.specs.Lists.{upto}
 use Rattle.base.proofs.Tests.{alike, never}
+use Rattle.base.proofs.Lists.{upto-cong}
 use Rattle.base.proofs.Painting.{painted-one, painted-same, painted-other, painted-cong, as-long}
 use native.Mathlib.Nat.{add-zero}
-use Rattle.base.proofs.Loops.{in-between, of-between, paint-begin, paint-step, pair-painted, turn-pair}
+use Rattle.base.proofs.Loops.{in-between, of-between, paint-begin, paint-step, paint-every, pair-painted, turn-pair}
 
 turn-one : (n i : ℕ) → between n (n + 1) everywhere i ≡ eqb i n
 turn-one n i =
@@ -56,6 +58,11 @@ pub stretch-cong : (to n : ℕ) (b d : ℕ → ℕ) (f : List ℕ) → ((j : ℕ
 stretch-cong to n b d f e =
     painted-cong _ _ (λ i. b (i - to)) (λ i. d (i - to)) f (λ i l. refl)
     (λ i l t. let q = in-between to (to + n) everywhere i t in e (i - to) (omega arith))
+
+-- a stretch that is all there is
+pub whole-stretch : (n : ℕ) (d : ℕ → ℕ) (f t : List ℕ) → length f ≡ n → t ≡ painted (between 0 n everywhere) (λ i. d (i - 0)) f → t ≡ upto n d
+whole-stretch n d f t size e =
+    paint-every (λ i. d (i - 0)) f t n size e ∙ upto-cong n _ d (λ i l. let k : i - 0 ≡ i = omega arith in ap d k)
 
 -- two blocks of sixteen, one after the other, are one stretch of thirty-two
 pub blocks-laid : (d : ℕ → ℕ) (x y f g h : List ℕ) (to : ℕ)

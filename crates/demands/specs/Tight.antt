@@ -1,6 +1,6 @@
 -- Document 01, "How tight the contracts are": for each input a contract settles the reply, count, refusal number, next state and all
--- lent buffers, so that any two outcomes that it admits are equal. `tight` in proofs/ proves `Tight` of every public call but those
--- that hand out a new reference, which docs/CONTRACTS.md lists. `leaves` and `means` are the two sides of the call's own `ensures`.
+-- lent buffers, so that any two outcomes that it admits are equal. `tight` in proofs/ proves `Tight` of every public call. `leaves` and `means`
+-- are the two sides of the call's own `ensures`.
 use Prim.Native.Nat.{ℕ}
 use mathlib.Core.Bool.{Bool}
 use mathlib.Core.List.{List, []}
@@ -138,7 +138,7 @@ pub record LastLine : Type 0 where
   pub place : ℕ
   pub number : ℕ
 
--- the public calls whose outcome holds no new reference
+-- the public calls
 pub data PublicCall : Type 0 where
   fresh : PublicCall
   -- transfer, bit, select_low and reset, each with its own event

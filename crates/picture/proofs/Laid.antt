@@ -1,4 +1,4 @@
--- A line's tiles: laid, marked and reversed, fromTiles out row by row and overlaid, they give the picture.
+-- A line's tiles: laid, marked and reversed, handed out row by row and overlaid, they give the picture.
 use Prim.Native.Nat.{ℕ, _+_, _*_, _-_, _/_, _%_, _<_, _≤_}
 use mathlib.Core.Path.{_≡_, refl, sym, ap, ap₂, _∙_}
 use mathlib.Core.Logic.{_≢_, ⊎-elim}
@@ -247,15 +247,6 @@ module _ (e : Fonts) (text glyph : List ℕ) (look : Look) where
         (λ i. (marks && look .blink) && between 0 32 everywhere i)
         (λ i. getD (look .view .reversed) (word / 16) false && between 0 32 everywhere i) t u v w a b d g
         ∙ upto-cong 32 _ _ (λ i l. tile-byte i l)
-
--- a line of one cell, shifted to a word, has the dots of that word
-pub line-of-one : (e : Fonts) (text glyph : List ℕ) (word : ℕ)
-    → upto 32 (byTile (λ cell j. wordDots e text glyph (lineWord (word % 16) (word / 16) cell) j)) ≡ upto 32 (wordDots e text glyph word)
-line-of-one e text glyph word =
-    upto-cong 32 _ _ (λ i l. let a : i / 32 ≡ 0 = omega arith in
-    let b : i % 32 ≡ i = omega arith in
-    let d : 16 * (word / 16) + (0 + word % 16) % 16 ≡ word = omega arith in
-    rw (a, b, d))
 
 -- the rows of a band show one line, one after the other
 pub band-bounds : (row s : ℕ) → row < 32 → (row < bandEnd row s) × (bandEnd row s ≤ 32) × (bandEnd row s + s % 16 ≤ row + 16)

@@ -8,7 +8,7 @@ use glyph::lookup::content;
 use glyph::tile::lay;
 ghost use mathlib.Core.Path.{_≡_};
 ghost use mathlib.Core.Bool.{_&&_, _||_};
-ghost use Prim.Native.Nat.{_+_, _*_, _-_, _%_, _<_, _≤_};
+ghost use Prim.Native.Nat.{_+_, _*_, _-_, _<_, _≤_};
 ghost use lib.ListN.{length, getD};
 ghost use lib.Dec.{eqb};
 ghost use Rattle.base.specs.Lists.{upto};
@@ -34,8 +34,7 @@ fn lay_word(
     lay(shown, tiles, to, glyph, half, full);
 }
 
-// The dots of as many cells of a line as there are tiles, from the word at `shift` on. A single tile goes by this too: with one caller
-// `lay_word` is no call of its own, and a draw is the faster for it.
+// The dots of all sixteen cells.
 fn lay_words(
     text: &[u8; 128],
     glyph: &[u8; 128],
@@ -45,12 +44,11 @@ fn lay_words(
     half: &[u8],
     full: &[u8],
 )
-    requires { ⌜ (shift < 256) × (line < 4) × (length (now tiles) % 32 ≡ 0) × (length (now tiles) ≤ 512) × (length (now half) ≡ 2048) ⌝ }
-    ensures { λ _. ⌜ now (tiles .exit) ≡ upto (length (now (tiles .entry))) (byTile (λ cell j. wordDots (fonts half full) (now (text .entry)) (now (glyph .entry)) (lineWord shift line cell) j)) ⌝ }
+    requires { ⌜ (shift < 256) × (line < 4) × (length (now tiles) ≡ 512) × (length (now half) ≡ 2048) ⌝ }
+    ensures { λ _. ⌜ now (tiles .exit) ≡ upto 512 (byTile (λ cell j. wordDots (fonts half full) (now (text .entry)) (now (glyph .entry)) (lineWord shift line cell) j)) ⌝ }
 {
-    let cells = (tiles.len() / 32) as u32;
     let mut cell: u32 = 0;
-    while cell < cells {
+    while cell < 16 {
         let word = 16 * line + (cell + shift) % 16;
         let to = 32 * (cell as usize);
         lay_word(text, glyph, word, tiles, to, half, full);
@@ -134,7 +132,7 @@ pub fn lay_tile(
     let here = word == counter_word(cell);
     let reversed = look.view.reversed;
     let line = word / 16;
-    lay_words(text, glyph, word % 16, line, tile, half, full);
+    lay_word(text, glyph, word, tile, 0, half, full);
     fill_cursor(tile, 0, both(here, look.cursor));
     invert_if(tile, 0, 32, both(here, look.blink));
     invert_if(tile, 0, 32, reversed[line as usize]);

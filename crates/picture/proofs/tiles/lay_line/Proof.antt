@@ -25,4 +25,4 @@ lay-line-spec =
     (λ c. search needs)
     (λ c κs. search needs)
     (λ c. search needs)
-    (λ c. let a = c .before .before .before .before .before .before .before .before .before .before .before .before .before .before .before .before .before .before .before .before .before .before .before .before .args in let s : a .look .view .shift < 256 = omega (arith, c .before .before .before .before .before .before .before .before .before .before .before .before .before .before .before .before .before .before .before .before .before .before .before .before .good .1 .1 .0) in line-marked (record { half = a .half .now; full = a .full .now }) (a .text .now) (a .glyph .now) (a .look) (a .line) s (c .before .before .before .before .before .before .before .before .before .before .before .before .before .before .before .before .before .before .before .before .before .before .before .before .pre .0) _ _ _ _ (rw (c .before .before .before .before .before .before .before .before .before .before .before .before .before .before .before .before .before .before .before .before .before .before .before .before .pre .1) at (c .before .before .before .before .before .before .before .before .before .before .before .before .before .before .before .before .lay-words .ensures)) (rw (c .before .before .before .before .before .before .before .before .before .before .before .before .both .ensures, c .before .before .before .before .before .before .before .before .before .before .before .before .before .before .before .before .before .before .before .counter-word .ensures) at (c .before .before .before .before .before .before .before .before .before .before .before .fill-cursor .ensures)) (rw (c .before .before .before .before .before .before .before .both2 .ensures, c .before .before .before .before .before .before .before .before .before .before .before .before .before .before .before .before .before .before .before .counter-word .ensures) at (c .before .before .before .before .before .before .invert-if .ensures)) (c .before .before .invert-if2 .ensures)))
+    (λ c. let a = c .before .before .before .before .before .before .before .before .before .before .before .before .before .before .before .before .before .before .before .before .before .before .before .before .args in let s : a .look .view .shift < 256 = omega (arith, c .before .before .before .before .before .before .before .before .before .before .before .before .before .before .before .before .before .before .before .before .before .before .before .before .good .1 .1 .0) in line-marked (record { half = a .half .now; full = a .full .now }) (a .text .now) (a .glyph .now) (a .look) (a .line) s (c .before .before .before .before .before .before .before .before .before .before .before .before .before .before .before .before .before .before .before .before .before .before .before .before .pre .0) _ _ _ _ (c .before .before .before .before .before .before .before .before .before .before .before .before .before .before .before .before .lay-words .ensures) (rw (c .before .before .before .before .before .before .before .before .before .before .before .before .both .ensures, c .before .before .before .before .before .before .before .before .before .before .before .before .before .before .before .before .before .before .before .counter-word .ensures) at (c .before .before .before .before .before .before .before .before .before .before .before .fill-cursor .ensures)) (rw (c .before .before .before .before .before .before .before .both2 .ensures, c .before .before .before .before .before .before .before .before .before .before .before .before .before .before .before .before .before .before .before .counter-word .ensures) at (c .before .before .before .before .before .before .invert-if .ensures)) (c .before .before .invert-if2 .ensures)))

@@ -2,7 +2,8 @@
 use borrow.Author.Needs.{needs}
 use Prim.Native.Nat.{_-_}
 use mathlib.Core.Path.{_∙_}
-use Rattle.picture.proofs.Laid.{tile-marked, line-of-one}
+use Rattle.picture.proofs.Laid.{tile-marked}
+use Rattle.base.proofs.Copies.{whole-stretch}
 use Rattle.picture.proofs.tiles.lay_tile.Statement.{statement}
 use Rattle.picture.proofs.tiles.lay_tile.Tie as tie
 
@@ -20,4 +21,4 @@ lay-tile-spec =
     (λ c. search needs)
     (λ c κs. search needs)
     (λ c. search needs)
-    (λ c. let a = c .before .before .before .before .before .before .before .before .before .before .before .before .before .before .before .before .before .before .before .before .before .before .before .args in tile-marked (record { half = a .half .now; full = a .full .now }) (a .text .now) (a .glyph .now) (a .look) (a .word) (c .before .before .before .before .before .before .before .before .before .before .before .before .before .before .before .before .before .before .before .before .before .before .before .pre .0) _ _ _ _ ((rw (c .before .before .before .before .before .before .before .before .before .before .before .before .before .before .before .before .before .before .before .before .before .before .before .pre .1) at (c .before .before .before .before .before .before .before .before .before .before .before .before .before .before .before .before .lay-words .ensures)) ∙ line-of-one (record { half = a .half .now; full = a .full .now }) (a .text .now) (a .glyph .now) (a .word)) (rw (c .before .before .before .before .before .before .before .before .before .before .before .before .both .ensures, c .before .before .before .before .before .before .before .before .before .before .before .before .before .before .before .before .before .before .before .counter-word .ensures) at (c .before .before .before .before .before .before .before .before .before .before .before .fill-cursor .ensures)) (rw (c .before .before .before .before .before .before .before .both2 .ensures, c .before .before .before .before .before .before .before .before .before .before .before .before .before .before .before .before .before .before .before .counter-word .ensures) at (c .before .before .before .before .before .before .invert-if .ensures)) (c .before .before .invert-if2 .ensures)))
+    (λ c. let a = c .before .before .before .before .before .before .before .before .before .before .before .before .before .before .before .before .before .before .before .before .before .before .before .args in tile-marked (record { half = a .half .now; full = a .full .now }) (a .text .now) (a .glyph .now) (a .look) (a .word) (c .before .before .before .before .before .before .before .before .before .before .before .before .before .before .before .before .before .before .before .before .before .before .before .pre .0) _ _ _ _ (whole-stretch 32 _ _ _ (c .before .before .before .before .before .before .before .before .before .before .before .before .before .before .before .before .before .before .before .before .before .before .before .pre .1) (c .before .before .before .before .before .before .before .before .before .before .before .before .before .before .before .before .lay-word .ensures)) (rw (c .before .before .before .before .before .before .before .before .before .before .before .before .both .ensures, c .before .before .before .before .before .before .before .before .before .before .before .before .before .before .before .before .before .before .before .counter-word .ensures) at (c .before .before .before .before .before .before .before .before .before .before .before .fill-cursor .ensures)) (rw (c .before .before .before .before .before .before .before .both2 .ensures, c .before .before .before .before .before .before .before .before .before .before .before .before .before .before .before .before .before .before .before .counter-word .ensures) at (c .before .before .before .before .before .before .invert-if .ensures)) (c .before .before .invert-if2 .ensures)))

@@ -13,10 +13,10 @@ use Rattle.picture.proofs.tiles.lay_words.Statement.{statement}
 use Rattle.picture.proofs.tiles.lay_words.Tie as tie
 
 abbrev Inv-loop : tie.InvT-loop
-Inv-loop text glyph shift line tiles₀ half full cells cell₀ tiles cell = (cell ≤ cells) × (cells ≤ 16) × (32 * cells ≡ length tiles₀) × (length tiles ≡ length tiles₀) × (tiles ≡ painted (between 0 (32 * cell) everywhere) (byTile (λ k j. wordDots (record { half = half; full = full }) text glyph (lineWord shift line k) j)) tiles₀)
+Inv-loop text glyph shift line tiles₀ half full cell₀ tiles cell = (cell ≤ 16) × (length tiles ≡ 512) × (tiles ≡ painted (between 0 (32 * cell) everywhere) (byTile (λ k j. wordDots (record { half = half; full = full }) text glyph (lineWord shift line k) j)) tiles₀)
 
 abbrev μ-loop : tie.MeasureT-loop
-μ-loop text glyph shift line tiles₀ half full cells cell₀ tiles cell = cells - cell
+μ-loop text glyph shift line tiles₀ half full cell₀ tiles cell = 16 - cell
 
 pub lay-words-spec : {M : Type 1} → statement M
 lay-words-spec =
@@ -24,8 +24,7 @@ lay-words-spec =
     (tie.spec
     Inv-loop
     μ-loop
-    (λ c. search needs)
-    (λ c. (search needs, search needs, search needs, search needs, paint-begin everywhere _ _ 0))
+    (λ c. (search needs, search needs, paint-begin everywhere _ _ 0))
     (λ c. search needs)
     (λ c. search needs)
     (λ c. search needs)
@@ -34,6 +33,6 @@ lay-words-spec =
     (λ c κs. search needs)
     (λ c. search needs)
     (λ c. search needs)
-    (λ c. let l = c .before .before .before .before .before .loop in let a = c .before .before .before .before .before .before .before .before .before .args in let e = c .before .before .lay-word .ensures in (search needs, l .inv .1, l .inv .2, as-long _ _ _ _ e ∙ l .inv .3, words-turn (λ k j. wordDots (record { half = a .half .now; full = a .full .now }) (a .text .now) (a .glyph .now) (lineWord (a .shift) (a .line) k) j) _ _ _ _ (l .inv .4) e))
+    (λ c. let l = c .before .before .before .before .before .loop in let a = c .before .before .before .before .before .before .before .before .before .args in let e = c .before .before .lay-word .ensures in (search needs, as-long _ _ _ _ e ∙ l .inv .1, words-turn (λ k j. wordDots (record { half = a .half .now; full = a .full .now }) (a .text .now) (a .glyph .now) (lineWord (a .shift) (a .line) k) j) _ _ _ _ (l .inv .2) e))
     (λ c. search needs)
-    (λ c. let l = c .before .loop in let n = length (c .before .before .before .before .before .args .tiles .now) in let k : 32 * l .cell ≡ n = omega arith in paint-every _ _ _ n refl (rw k at (l .inv .4))))
+    (λ c. let l = c .before .loop in let k : 32 * l .cell ≡ 512 = omega arith in paint-every _ _ _ 512 (c .before .before .before .before .before .pre .2) (rw k at (l .inv .2))))
