@@ -19,9 +19,9 @@ use Rattle.links.specs.declared.Link.{Link}
 use Rattle.links.specs.declared.Sync.the-variants.{Lost}
 use Rattle.links.specs.declared.Taken.{Taken}
 use Rattle.links.specs.declared.Taken.the-variants.{OtherLink, Carries}
-use Rattle.links.specs.Items.{WholeWrite, Item, write, besideWires, deed, Way, wholeBytes, halves, serial, bitsOf, wires, writeDeeds, wireDeeds, idleOn, resting, syncAfter}
-use Rattle.links.specs.Connector.{Performed, CameAll, Comes, elsewhere, comes, next, preceded, carriedAt, takenAt, eventAt, runs, KeepsDl, Idles}
-use Rattle.links.proofs.ItemsAct.{items-act, lists-agree}
+use Rattle.connector.specs.Items.{WholeWrite, Item, write, besideWires, deed, Way, wholeBytes, halves, serial, bitsOf, wires, writeDeeds, wireDeeds, idleOn, resting, syncAfter}
+use Rattle.connector.specs.Connector.{Performed, CameAll, Comes, elsewhere, comes, next, preceded, carriedAt, takenAt, eventAt, runs, KeepsDl, Idles}
+use Rattle.connector.proofs.ItemsAct.{items-act, lists-agree}
 use Rattle.picture.specs.declared.Look.{Look}
 use Rattle.picture.specs.Picture.{Fonts, Seen, fontsOf, lookOf, wide}
 use Rattle.repaint.specs.Repaint.{named, repainted, countNamed}

@@ -25,9 +25,9 @@ use Rattle.events.specs.declared.Transfer.the-variants.{Instruct, Write, Status
 use Rattle.events.specs.declared.Deed.{Deed}
 use Rattle.events.specs.declared.Deed.the-variants.{Nothing, Whole, Fresh}
 use Rattle.links.specs.Halves as halves
-use Rattle.links.specs.Items.{WholeWrite, write, deed, SameButBit4, same, functionSets}
-use Rattle.links.specs.Connector.{act}
-use Rattle.links.specs.Statements.{Respected}
+use Rattle.connector.specs.Items.{WholeWrite, write, deed, SameButBit4, same, functionSets}
+use Rattle.connector.specs.Connector.{act}
+use Rattle.connector.specs.Statements.{Respected}
 use Rattle.picture.specs.Picture.{Seen, byteAt, effectsOf}
 use Rattle.repaint.specs.Repaint.{repainted, named}
 use Rattle.demands.specs.Wires.{Board, countOf, boardAfter, board, withDl}

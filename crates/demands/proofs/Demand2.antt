@@ -26,7 +26,7 @@ use Rattle.demands.proofs.Agreement.{call-is-connected, sent-is-receive
 use Rattle.demands.proofs.KeepDl.{function-sets-keep-dl}
 use Rattle.panel.specs.Handed.{handed}
 use Rattle.demands.specs.Demand2.{Run, yielded, SequencesAsDefined, SelectLowIdles, SendsThreeBytes, Demand2}
-use Rattle.links.proofs.HalvesPaired.{halves-read-whole}
+use Rattle.connector.proofs.HalvesPaired.{halves-read-whole}
 use Rattle.demands.specs.Wires.{board}
 use Rattle.demands.proofs.Stored.{words-stored}
 use Rattle.demands.proofs.ReadBack.{read-back}

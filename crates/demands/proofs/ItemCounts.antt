@@ -5,8 +5,8 @@ use mathlib.Core.Path.{_≡_, refl, ap, _∙_}
 use native.Mathlib.Omega.{arith}
 use lib.ListN.{take, drop, replicate}
 use Rattle.controller.specs.Transfers.{performed}
-use Rattle.links.specs.Items.{Item, write, besideWires, deed, Way, wholeBytes, halves, serial, bitsOf, wires, Alike, none, writes, events}
-use Rattle.links.specs.Connector.{act}
+use Rattle.connector.specs.Items.{Item, write, besideWires, deed, Way, wholeBytes, halves, serial, bitsOf, wires, Alike, none, writes, events}
+use Rattle.connector.specs.Connector.{act}
 use Rattle.picture.specs.Picture.{Seen}
 use Rattle.demands.specs.Wires.{Board, countOf, board, itemCounts, callsFor, atLast, byItem, sum}
 use Rattle.demands.proofs.ButDl.{boardButDl, write-agrees, write-count-agrees, deed-agrees, deed-count-agrees}

@@ -21,8 +21,8 @@ use Rattle.controller.specs.Instructions.{obeyed, modes}
 use Rattle.controller.specs.Data.{movedOn}
 use Rattle.controller.specs.Transfers.{executed, written, carriedOut, performed}
 use Rattle.links.specs.Halves as halves
-use Rattle.links.specs.Items.{WholeWrite, wholeBytes, halves, serial}
-use Rattle.links.specs.Connector.{act, HasDl}
+use Rattle.connector.specs.Items.{WholeWrite, wholeBytes, halves, serial}
+use Rattle.connector.specs.Connector.{act, HasDl}
 use Rattle.picture.specs.Picture.{Seen}
 use Rattle.demands.specs.Wires.{Board, boardOf, items, board, SetsDl}
 use Rattle.demands.specs.Agreement.{FunctionSetsKeepDl}

@@ -20,8 +20,8 @@ use Rattle.controller.specs.Instructions.{stepped, withWaiting, obeyed}
 use Rattle.controller.specs.Data.{stored, moved, movedOn}
 use Rattle.controller.specs.Named.{counterCell, instructionNames, writeNames, covers}
 use Rattle.controller.specs.Transfers.{executed, written, carriedOut, performed}
-use Rattle.links.specs.Items.{WholeWrite, Item, Way, wholeBytes, halves, serial}
-use Rattle.links.specs.Connector.{does}
+use Rattle.connector.specs.Items.{WholeWrite, Item, Way, wholeBytes, halves, serial}
+use Rattle.connector.specs.Connector.{does}
 use Rattle.picture.specs.Picture.{Seen, wide}
 use Rattle.repaint.specs.Repaint.{named, countNamed}
 use Rattle.base.proofs.Counting.{count-all}

@@ -8,8 +8,8 @@ use lib.ListN.{length, replicate}
 use Rattle.events.specs.declared.Event.{Event}
 use Rattle.links.specs.declared.Link.{Link}
 use Rattle.links.specs.declared.Sync.the-variants.{Lost}
-use Rattle.links.specs.Items.{WholeWrite, Item, Way, serial, wires, idleOn, resting, syncAfter, Alike}
-use Rattle.links.specs.Connector.{Came, Comes, elsewhere, comes, eventAt, KeepsDl}
+use Rattle.connector.specs.Items.{WholeWrite, Item, Way, serial, wires, idleOn, resting, syncAfter, Alike}
+use Rattle.connector.specs.Connector.{Came, Comes, elsewhere, comes, eventAt, KeepsDl}
 use Rattle.picture.specs.Picture.{Seen}
 use Rattle.calls.specs.State.{State}
 use Rattle.calls.specs.Calls.{Called, refused, Fits, called, afterCalls}

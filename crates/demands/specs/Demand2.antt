@@ -23,7 +23,7 @@ use Rattle.picture.specs.Refusals.{drawing, drawn}
 use Rattle.controller.specs.State.{remade}
 use Rattle.calls.specs.State.{State, state, freshState}
 use Rattle.calls.specs.Calls.{Called, Fits, called}
-use Rattle.links.specs.Statements.{HalvesReadWhole}
+use Rattle.connector.specs.Statements.{HalvesReadWhole}
 use Rattle.demands.specs.Wires.{board}
 use Rattle.demands.specs.Stored.{WordsStored}
 use Rattle.demands.specs.ReadBack.{ReadBack}

@@ -10,7 +10,7 @@ use Rattle.controller.specs.Memories.{wordPlace, graphicPlace, freshMemories}
 use Rattle.events.specs.declared.Event.{Event}
 use Rattle.events.specs.declared.Event.the-variants.{Transfer, Bit}
 use Rattle.events.specs.declared.Transfer.the-variants.{Instruct, Write, Status, Read}
-use Rattle.links.specs.Items.{bitsOf}
+use Rattle.connector.specs.Items.{bitsOf}
 use Rattle.glyph.specs.declared.Code.the-variants.{Number}
 use Rattle.glyph.specs.Numbering.{numberOf}
 use Rattle.picture.specs.Picture.{Seen}

@@ -15,7 +15,7 @@ use Rattle.controller.specs.declared.Waiting.the-variants.{Nothing}
 use Rattle.controller.specs.Memories.{Memories, memories, wordPlace, graphicPlace}
 use Rattle.controller.specs.Instructions.{stepped}
 use Rattle.controller.specs.Named.{counterCell}
-use Rattle.links.specs.Items.{Item, write, Way, wires, idleOn}
+use Rattle.connector.specs.Items.{Item, write, Way, wires, idleOn}
 use Rattle.picture.specs.Picture.{Seen, wide}
 use Rattle.repaint.specs.Repaint.{countNamed}
 use Rattle.calls.specs.State.{State}

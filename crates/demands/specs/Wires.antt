@@ -14,8 +14,8 @@ use Rattle.events.specs.declared.Event.{Event}
 use Rattle.links.specs.declared.Link.{Link}
 use Rattle.events.specs.declared.Transfer.{Transfer}
 use Rattle.events.specs.declared.Transfer.the-variants.{Instruct, Write, Status, Read}
-use Rattle.links.specs.Items.{WholeWrite, Item, write, deed, Way, wholeBytes, halves, serial, wires}
-use Rattle.links.specs.Connector.{Performed, Controller, does}
+use Rattle.connector.specs.Items.{WholeWrite, Item, write, deed, Way, wholeBytes, halves, serial, wires}
+use Rattle.connector.specs.Connector.{Performed, Controller, does}
 use Rattle.picture.specs.Picture.{Seen, fontsOf, lookOf, wide}
 use Rattle.repaint.specs.Repaint.{repainted, countNamed}
 use Rattle.calls.specs.State.{State, state}

@@ -1,5 +1,1 @@
 pub mod Buffer
-pub mod WriteHeard
-pub mod Seldom
-pub mod HalvesPaired
-pub mod ItemsAct

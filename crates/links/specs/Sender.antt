@@ -5,7 +5,7 @@ use mathlib.Core.List.{List, [], _∷_, _++_}
 use lib.Dec.{ltb}
 use lib.ListN.{length, drop}
 use Rattle.base.specs.Choice.{if_then_else_}
-use Rattle.base.specs.Bits.{bits3-0}
+use Rattle.base.specs.Bits.{bit, bits3-0}
 use Rattle.links.specs.Halves.{bits7-4, raised}
 
 -- F8h (instruction) or FAh (data)
@@ -16,6 +16,10 @@ headerByte true = 0xFA
 -- three bytes per write: the header, then upper and lower half bytes in bits 7..4
 abbrev pub threeBytes : Bool → ℕ → List ℕ
 threeBytes register byte = headerByte register ∷ raised (bits7-4 byte) ∷ raised (bits3-0 byte) ∷ []
+
+-- on the wire the bits of a byte come highest first
+abbrev pub highestFirst : ℕ → List Bool
+highestFirst b = bit 7 b ∷ bit 6 b ∷ bit 5 b ∷ bit 4 b ∷ bit 3 b ∷ bit 2 b ∷ bit 1 b ∷ bit 0 b ∷ []
 
 -- what a call of `send` leaves: its number, and the buffer
 pub record Sent : Type 0 where

@@ -1,7 +1,6 @@
 -- Document 01, "Links": serial, bit by bit.
-use Prim.Native.Nat.{ℕ, suc, _+_, _*_, _%_}
+use Prim.Native.Nat.{ℕ, _+_, _*_, _%_}
 use mathlib.Core.Bool.{Bool, true, false}
-use mathlib.Core.List.{List, [], _∷_}
 use lib.Dec.{ltb}
 use Rattle.base.specs.Choice.{if_then_else_}
 use Rattle.links.specs.declared.Header.{Header}
@@ -67,21 +66,3 @@ heard (Outside run sync) bit = record { receiver = counted run bit (bodyBit sync
 -- chip select low loses sync and clears the run
 abbrev pub afterSelectLow : Receiver → Receiver
 afterSelectLow receiver = Outside 0 Lost
-
--- bits in a row: the receiver after them, and what each of them brought
-pub record Listened : Type 0 where
-  pub receiver : Receiver
-  pub brought : List Received
-
-abbrev began : Received → Listened → Listened
-began received l = record { receiver = l .receiver; brought = received ∷ l .brought }
-
-unfoldable pub listened : Receiver → List Bool → Listened
-listened receiver [] = record { receiver = receiver; brought = [] }
-listened receiver (bit ∷ bits) = began (heard receiver bit .received) (listened (heard receiver bit .receiver) bits)
-
--- how many bytes were received
-unfoldable pub bytesIn : List Received → ℕ
-bytesIn [] = 0
-bytesIn (Nothing ∷ rest) = bytesIn rest
-bytesIn (Byte register byte ∷ rest) = suc (bytesIn rest)

@@ -22,7 +22,7 @@ use Rattle.events.specs.declared.Event.the-variants.{Bit}
 use Rattle.links.specs.declared.Rest.the-variants.{Stays}
 use Rattle.links.specs.Taken.{deedOf, takenBy}
 use Rattle.links.specs.Serial as serial
-use Rattle.links.proofs.Seldom.{at-most-one-byte}
+use Rattle.connector.proofs.Seldom.{at-most-one-byte}
 use Rattle.picture.specs.Picture.{Seen}
 use Rattle.picture.specs.Refusals.{refusalOf}
 use Rattle.repaint.specs.Repaint.{named, countNamed}

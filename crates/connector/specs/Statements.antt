@@ -8,20 +8,20 @@ use mathlib.Core.Bool.{Bool, true, false}
 use mathlib.Core.List.{List, [], _∷_, _++_}
 use lib.ListN.{length, replicate}
 use Rattle.base.specs.Bits.{bits3-0}
 use Rattle.links.specs.declared.Pairing.the-variants.{Empty, Upper}
 use Rattle.events.specs.declared.Deed.the-variants.{Whole}
 use Rattle.links.specs.declared.Link.the-variants.{Parallel}
 use Rattle.links.specs.declared.Sync.{Sync}
 use Rattle.links.specs.declared.Sync.the-variants.{Body}
 use Rattle.links.specs.declared.Receiver.{Receiver}
 use Rattle.links.specs.declared.Receiver.the-variants.{Outside}
 use Rattle.links.specs.declared.Received.the-variants.{Nothing, Byte}
 use Rattle.links.specs.Halves.{bits7-4, joined, writing, reading, kept, acts, paired}
-use Rattle.links.specs.Serial.{listened, bytesIn}
+use Rattle.connector.specs.Listened.{listened, bytesIn}
 use Rattle.links.specs.Sender.{threeBytes}
 use Rattle.links.specs.Taken.{byWidth, transferTaken}
-use Rattle.links.specs.Items.{Beside, Item, Way, above, bitsOf, wires, wireDeeds, syncAfter, SameButBit4, Alike}
-use Rattle.links.specs.Connector.{Controller, Came, comes, rests, carriedAt, takenAt, runs, act, does, KeepsDl, Idles}
+use Rattle.connector.specs.Items.{Beside, Item, Way, above, bitsOf, wires, wireDeeds, syncAfter, SameButBit4, Alike}
+use Rattle.connector.specs.Connector.{Controller, Came, comes, rests, carriedAt, takenAt, runs, act, does, KeepsDl, Idles}
 
 module _ {S : Type 0} (on : Controller S) where
   -- 1. Any number of such writes, heard bit by bit on a serial link with nothing half received and chip select high, act exactly as the

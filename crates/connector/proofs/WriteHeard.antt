@@ -8,17 +8,18 @@ use native.Mathlib.Omega.{arith}
 use Rattle.base.specs.Choice.{if_then_else_}
 use Rattle.base.specs.Bits.{bit, bits3-0}
 use Rattle.base.proofs.Below.{below, _&_}
 use Rattle.links.specs.declared.Sync.{Sync}
 use Rattle.links.specs.declared.Sync.the-variants.{Body}
 use Rattle.links.specs.declared.Receiver.{Receiver}
 use Rattle.links.specs.declared.Receiver.the-variants.{Outside}
 use Rattle.links.specs.declared.Received.{Received}
 use Rattle.links.specs.declared.Received.the-variants.{Nothing, Byte}
 use Rattle.links.specs.Halves.{bits7-4, raised}
-use Rattle.links.specs.Serial.{counted, afterHeader, headerBit, pushed, bodyBit, completed, heard, Listened, listened}
-use Rattle.links.specs.Sender.{headerByte}
-use Rattle.links.specs.Items.{highestFirst, bitsOf}
-use Rattle.links.specs.Statements.{LastBitActs}
+use Rattle.links.specs.Serial.{counted, afterHeader, headerBit, pushed, bodyBit, completed, heard}
+use Rattle.connector.specs.Listened.{Listened, listened}
+use Rattle.links.specs.Sender.{headerByte, highestFirst}
+use Rattle.connector.specs.Items.{bitsOf}
+use Rattle.connector.specs.Statements.{LastBitActs}
 
 -- what came before, with what came then
 abbrev and-then : List Received → Listened → Listened

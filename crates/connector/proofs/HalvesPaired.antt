@@ -5,14 +5,14 @@ use mathlib.Core.Bool.{Bool, true, false}
 use native.Mathlib.Omega.{arith}
 use Rattle.base.specs.Bits.{bits3-0}
 use Rattle.events.specs.declared.Transfer.the-variants.{Status, Read}
 use Rattle.links.specs.declared.Pairing.the-variants.{Empty, Upper, Lower}
 use Rattle.events.specs.declared.Deed.the-variants.{Nothing, Whole}
 use Rattle.links.specs.declared.Link.the-variants.{Parallel}
 use Rattle.links.specs.Halves.{bits7-4, raised, joined, writing, reading, kept, acts, writeHalf, readHalf, paired, firstReply}
 use Rattle.links.specs.Taken.{byWidth}
-use Rattle.links.specs.Items.{above}
-use Rattle.links.specs.Connector.{Performed, Controller, Came, comes}
-use Rattle.links.specs.Statements.{InHalves, SecondHalfActs, HalvesReadWhole}
+use Rattle.connector.specs.Items.{above}
+use Rattle.connector.specs.Connector.{Performed, Controller, Came, comes}
+use Rattle.connector.specs.Statements.{InHalves, SecondHalfActs, HalvesReadWhole}
 
 -- bits 3..0 do not count
 low-bits-lost : (half low : ℕ) → half < 16 → bits7-4 (above half low) ≡ half

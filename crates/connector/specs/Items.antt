@@ -4,22 +4,22 @@ use mathlib.Core.Path.{_≡_}
 use mathlib.Core.Bool.{Bool, true, false}
 use mathlib.Core.List.{List, [], _∷_, _++_, map}
 use lib.ListN.{replicate}
-use Rattle.base.specs.Bits.{bit, bits3-0}
+use Rattle.base.specs.Bits.{bits3-0}
 use Rattle.events.specs.declared.Event.{Event}
 use Rattle.events.specs.declared.Event.the-variants.{Transfer, Bit}
 use Rattle.events.specs.declared.Deed.{Deed}
 use Rattle.events.specs.declared.Deed.the-variants.{Nothing, Whole}
 use Rattle.links.specs.declared.Link.{Link}
 use Rattle.links.specs.declared.Link.the-variants.{Parallel, Serial}
 use Rattle.links.specs.declared.Pairing.the-variants.{Empty}
 use Rattle.links.specs.declared.Sync.{Sync}
 use Rattle.links.specs.declared.Sync.the-variants.{Body}
 use Rattle.links.specs.declared.Receiver.the-variants.{Outside}
 use Rattle.links.specs.declared.Taken.the-variants.{Carries}
 use Rattle.links.specs.Halves.{bits7-4, raised, writing}
 use Rattle.links.specs.Idle.{idle}
-use Rattle.links.specs.Sender.{threeBytes}
+use Rattle.links.specs.Sender.{threeBytes, highestFirst}
 use Rattle.links.specs.Taken.{stays, takenBy}
 
 -- a byte written to a register
 pub record WholeWrite : Type 0 where
@@ -53,10 +53,7 @@ pub data Way : Type 0 where
 abbrev pub above : ℕ → ℕ → ℕ
 above half low = raised half + bits3-0 low
 
--- the bits of a byte, highest first
-abbrev pub highestFirst : ℕ → List Bool
-highestFirst b = bit 7 b ∷ bit 6 b ∷ bit 5 b ∷ bit 4 b ∷ bit 3 b ∷ bit 2 b ∷ bit 1 b ∷ bit 0 b ∷ []
-
+-- the bits of bytes in a row
 unfoldable pub bitsOf : List ℕ → List Bool
 bitsOf [] = []
 bitsOf (b ∷ more) = highestFirst b ++ bitsOf more

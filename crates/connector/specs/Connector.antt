@@ -6,14 +6,14 @@ use mathlib.Core.List.{List, [], _∷_, _++_}
 use Rattle.events.specs.declared.Event.{Event}
 use Rattle.events.specs.declared.Deed.{Deed}
 use Rattle.events.specs.declared.Deed.the-variants.{Nothing, Whole}
 use Rattle.links.specs.declared.Link.{Link}
 use Rattle.links.specs.declared.Sync.{Sync}
 use Rattle.links.specs.declared.Carried.{Carried}
 use Rattle.links.specs.declared.Taken.{Taken}
 use Rattle.links.specs.declared.Taken.the-variants.{OtherLink, Carries}
 use Rattle.links.specs.Halves.{writing}
 use Rattle.links.specs.Taken.{takenBy, replied}
-use Rattle.links.specs.Items.{Item, deed, Way, wholeBytes, halves, serial, resting}
+use Rattle.connector.specs.Items.{Item, deed, Way, wholeBytes, halves, serial, resting}
 
 -- the state that a deed leaves, and the byte that a read answers
 pub record Performed (S : Type 0) : Type 0 where

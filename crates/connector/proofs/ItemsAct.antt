@@ -10,25 +10,25 @@ use Rattle.events.specs.declared.Event.{Event}
 use Rattle.events.specs.declared.Event.the-variants.{Transfer, Bit}
 use Rattle.events.specs.declared.Deed.{Deed}
 use Rattle.events.specs.declared.Deed.the-variants as deeds
 use Rattle.links.specs.declared.Link.the-variants.{Parallel, Serial}
 use Rattle.links.specs.declared.Pairing.{Pairing}
 use Rattle.links.specs.declared.Pairing.the-variants.{Empty, Upper}
 use Rattle.links.specs.declared.Sync.{Sync}
 use Rattle.links.specs.declared.Sync.the-variants.{Body}
 use Rattle.links.specs.declared.Receiver.{Receiver}
 use Rattle.links.specs.declared.Receiver.the-variants.{Outside}
 use Rattle.links.specs.declared.Received.{Received}
 use Rattle.links.specs.declared.Received.the-variants.{Nothing, Byte}
 use Rattle.links.specs.declared.Carried.{Carried}
 use Rattle.links.specs.Halves.{bits7-4, writing, acts, paired}
-use Rattle.links.specs.Serial.{Listened, listened}
+use Rattle.connector.specs.Listened.{Listened, listened}
 use Rattle.links.specs.Sender.{threeBytes}
 use Rattle.links.specs.Taken.{byWidth, takenBy, deedOf}
-use Rattle.links.specs.Items.{WholeWrite, Item, write, besideWires, Way, wholeBytes, halves, serial, above, bitsOf, writeEvents, writeDeeds, onward, wires, wireDeeds, syncAfter, Alike, none, writes, events}
-use Rattle.links.specs.Connector.{Performed, Controller, Connected, CameAll, Comes, elsewhere, comes, preceded, rests, carriedAt, eventAt, runs, act, does, HasDl, KeepsDl, Idles}
-use Rattle.links.specs.Statements.{ItemsAct, Respected, ListsAgree}
-use Rattle.links.proofs.HalvesPaired.{second-half-acts}
-use Rattle.links.proofs.WriteHeard.{last-bit-acts}
+use Rattle.connector.specs.Items.{WholeWrite, Item, write, besideWires, Way, wholeBytes, halves, serial, above, bitsOf, writeEvents, writeDeeds, onward, wires, wireDeeds, syncAfter, Alike, none, writes, events}
+use Rattle.connector.specs.Connector.{Performed, Controller, Connected, CameAll, Comes, elsewhere, comes, preceded, rests, carriedAt, eventAt, runs, act, does, HasDl, KeepsDl, Idles}
+use Rattle.connector.specs.Statements.{ItemsAct, Respected, ListsAgree}
+use Rattle.connector.proofs.HalvesPaired.{second-half-acts}
+use Rattle.connector.proofs.WriteHeard.{last-bit-acts}
 
 -- deeds before a run: none, or one before some
 preceded-none : {S : Type 0} (x : Comes (CameAll S)) → preceded [] x ≡ x

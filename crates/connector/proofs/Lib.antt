@@ -1,0 +1,4 @@
+pub mod WriteHeard
+pub mod Seldom
+pub mod HalvesPaired
+pub mod ItemsAct

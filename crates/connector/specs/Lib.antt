@@ -1,0 +1,4 @@
+pub mod Listened
+pub mod Items
+pub mod Connector
+pub mod Statements
