@@ -6,13 +6,13 @@ use Rattle.base.proofs.Choice.{either}
 use Rattle.table.specs.Table.{said}
 use Rattle.table.specs.Touches.{touches}
 use Rattle.controller.specs.declared.Control.{Control}
-use Rattle.controller.specs.declared.Done.{Done}
+use Rattle.deeds.specs.declared.Done.{Done}
 use Rattle.controller.specs.Memories.{Memories}
 use Rattle.controller.specs.State.{InRange, remade}
 use Rattle.controller.specs.Instructions.{obeyed, modes}
 use Rattle.controller.specs.Data.{movedOn}
-use Rattle.controller.specs.Transfers.{Acted, acted, executed, written, readOut, statusRead, carriedOut, performed}
-use Rattle.controller.proofs.Kept.{fresh-in-range, obeyed-in-range, movedOn-in-range, dummyRead-in-range}
+use Rattle.deeds.specs.Transfers.{Acted, acted, executed, written, readOut, statusRead, carriedOut, performed}
+use Rattle.deeds.proofs.Kept.{fresh-in-range, obeyed-in-range, movedOn-in-range, dummyRead-in-range}
 use Rattle.events.specs.declared.Transfer.{Transfer}
 use Rattle.events.specs.declared.Transfer.the-variants.{Instruct, Write, Status, Read}
 use Rattle.events.specs.declared.Deed.{Deed}

@@ -11,8 +11,8 @@ use Rattle.base.proofs.Counting.{count-le}
 use Rattle.base.proofs.Painting.{painted-length}
 use Rattle.controller.specs.Memories.{Memories}
 use Rattle.controller.specs.State as controls
-use Rattle.controller.specs.Transfers.{performed}
-use Rattle.controller.proofs.Kept.{fresh-valid, performed-valid}
+use Rattle.deeds.specs.Transfers.{performed}
+use Rattle.deeds.proofs.Kept.{fresh-valid, performed-valid}
 use Rattle.events.specs.declared.Event.{Event}
 use Rattle.events.specs.declared.Event.the-variants.{Reset}
 use Rattle.events.specs.declared.Made.{Made}

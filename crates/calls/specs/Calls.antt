@@ -7,7 +7,7 @@ use lib.Dec.{eqb}
 use Rattle.base.specs.Choice.{if_then_else_}
 use Rattle.controller.specs.declared.Control.{Control}
 use Rattle.controller.specs.Memories.{Memories}
-use Rattle.controller.specs.Transfers.{Acted, performed}
+use Rattle.deeds.specs.Transfers.{Acted, performed}
 use Rattle.events.specs.declared.Event.{Event}
 use Rattle.events.specs.declared.Deed.{Deed}
 use Rattle.events.specs.declared.Deed.the-variants.{Nothing}

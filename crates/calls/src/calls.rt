@@ -2,8 +2,8 @@
 // the call by value leaves; all are `call`, which takes any event.
 use crate::LentOutcome;
 use controller::Control;
-use controller::Done;
-use controller::transfers::perform;
+use deeds::Done;
+use deeds::perform;
 use events::Event;
 use events::Pin;
 use events::Transfer;
@@ -17,7 +17,7 @@ ghost use mathlib.Core.Path.{_≡_};
 ghost use lib.ListN.{length};
 ghost use Rattle.controller.specs.Memories.{before, after};
 ghost use Rattle.controller.specs.State.{InRange};
-ghost use Rattle.controller.specs.Transfers.{acted};
+ghost use Rattle.deeds.specs.Transfers.{acted};
 ghost use Rattle.events.specs.declared.Event.the-variants as event;
 ghost use Rattle.picture.specs.Picture.{seen};
 ghost use Rattle.repaint.specs.Repaint.{regionWithin};

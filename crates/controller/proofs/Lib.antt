@@ -1,4 +1,2 @@
 pub mod Halves
 pub mod Ranges
-pub mod Kept
-pub mod Leaves

@@ -4,4 +4,3 @@ pub mod Instructions
 pub mod Data
 pub mod Glass
 pub mod Named
-pub mod Transfers

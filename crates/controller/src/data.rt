@@ -13,7 +13,7 @@ ghost use Rattle.controller.specs.State.{InRange, limit};
 ghost use Rattle.controller.specs.Data.{stored, found, nextCounter, counterAfter, moved, completes, shifts, movedOn, dummyRead};
 
 // The byte goes into the next half of the target's memory.
-pub(crate) fn store(
+pub fn store(
     text: &mut [u8; 128],
     glyph: &mut [u8; 128],
     graphic: &mut [u8; 2048],
@@ -42,12 +42,7 @@ pub(crate) fn store(
 }
 
 // The next half of the target's memory.
-pub(crate) fn find(
-    text: &[u8; 128],
-    glyph: &[u8; 128],
-    graphic: &[u8; 2048],
-    control: Control,
-) -> u8
+pub fn find(text: &[u8; 128], glyph: &[u8; 128], graphic: &[u8; 2048], control: Control) -> u8
     requires { ⌜ InRange control ⌝ }
     ensures { λ r. ⌜ r ≡ found (control .place .target) (control .place) (before text glyph graphic) ⌝ }
 {
@@ -138,7 +133,7 @@ impl Control {
     }
 
     // The controls after a half has been written or read.
-    pub(crate) fn moved_on(self) -> Control
+    pub fn moved_on(self) -> Control
         requires { ⌜ InRange self ⌝ }
         ensures { λ r. ⌜ r ≡ movedOn self ⌝ }
     {
@@ -155,7 +150,7 @@ impl Control {
     }
 
     // The controls after a dummy read: the mark is cleared, and nothing moves.
-    pub(crate) fn dummy_read(self) -> Control
+    pub fn dummy_read(self) -> Control
         ensures { λ r. ⌜ r ≡ dummyRead self ⌝ }
     {
         let place = self.place;

@@ -161,7 +161,7 @@ impl Control {
     }
 
     // What reset makes the next state with: what this one keeps, and the pin.
-    pub(crate) fn remade(self, pin: Pin) -> Made
+    pub fn remade(self, pin: Pin) -> Made
         ensures { λ r. ⌜ r ≡ remade self pin ⌝ }
     {
         Made {
@@ -170,7 +170,7 @@ impl Control {
     }
 
     // What the table asks for beside the byte.
-    pub(crate) fn modes(self) -> Modes
+    pub fn modes(self) -> Modes
         ensures { λ r. ⌜ r ≡ modes self ⌝ }
     {
         let place = self.place;
@@ -262,7 +262,7 @@ impl Control {
     }
 
     // What an entry of the table makes of the controls.
-    pub(crate) fn obey(self, instruction: Instruction) -> Control
+    pub fn obey(self, instruction: Instruction) -> Control
         requires { ⌜ InRange self ⌝ }
         ensures { λ r. ⌜ r ≡ obeyed self instruction ⌝ }
     {

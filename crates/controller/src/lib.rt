@@ -2,11 +2,10 @@
 // The three memories are arrays that the caller lends; everything else is `Control`, which goes in and comes back by value.
 use table::Target;
 
-mod data;
+pub mod data;
 mod instructions;
 pub mod named;
 pub mod places;
-pub mod transfers;
 
 // A graphic row that waits for its column.
 pub enum Waiting {
@@ -82,11 +81,4 @@ pub enum Region {
     Cells(Cell, Cell),
     GlyphHalf { word: u8, low: bool },
     GraphicHalf { row: u8, column: u8, low: bool },
-}
-
-// What a transfer leaves beside the memories: the next controls, the reply, and what it names.
-pub struct Done {
-    pub control: Control,
-    pub reply: u8,
-    pub region: Region,
 }

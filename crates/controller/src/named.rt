@@ -74,7 +74,7 @@ fn touch_names(touch: Touch, before: Place, after: Place) -> Region
     }
 }
 
-pub(crate) fn instruction_names(before: Control, after: Control, touch: Touch) -> Region
+pub fn instruction_names(before: Control, after: Control, touch: Touch) -> Region
     ensures { λ r. ⌜ r ≡ instructionNames before after touch ⌝ }
 {
     if standby_ended(before.standby, after.standby) {
@@ -113,7 +113,7 @@ fn write_by_target(before: Place, after: Place) -> Region
     }
 }
 
-pub(crate) fn write_names(before: Control, after: Control) -> Region
+pub fn write_names(before: Control, after: Control) -> Region
     ensures { λ r. ⌜ r ≡ writeNames before after ⌝ }
 {
     if before.shifts() {
@@ -124,7 +124,7 @@ pub(crate) fn write_names(before: Control, after: Control) -> Region
     write_by_target(from, to)
 }
 
-pub(crate) fn read_names(before: Control, after: Control) -> Region
+pub fn read_names(before: Control, after: Control) -> Region
     ensures { λ r. ⌜ r ≡ readNames before after ⌝ }
 {
     if before.shifts() {

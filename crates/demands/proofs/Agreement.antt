@@ -11,7 +11,7 @@ use Rattle.controller.specs.declared.Region.{Region}
 use Rattle.controller.specs.declared.Region.the-variants as region
 use Rattle.controller.specs.Memories.{Memories}
 use Rattle.controller.specs.Named.{covers}
-use Rattle.controller.specs.Transfers.{performed}
+use Rattle.deeds.specs.Transfers.{performed}
 use Rattle.events.specs.declared.Event.{Event}
 use Rattle.events.specs.declared.Deed.{Deed}
 use Rattle.events.specs.declared.Deed.the-variants as deeds

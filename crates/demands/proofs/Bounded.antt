@@ -16,11 +16,11 @@ use Rattle.controller.specs.declared.Control.{Control}
 use Rattle.controller.specs.declared.Place.{Place}
 use Rattle.controller.specs.declared.Region.{Region}
 use Rattle.controller.specs.declared.Region.the-variants.{Nothing}
-use Rattle.controller.specs.declared.Done.{Done}
+use Rattle.deeds.specs.declared.Done.{Done}
 use Rattle.controller.specs.Memories.{Memories}
 use Rattle.controller.specs.Data.{completes, shifts, movedOn}
 use Rattle.controller.specs.Named.{covers, textNames, writeByTarget, writeNames, readNames, bothCells}
-use Rattle.controller.specs.Transfers.{Acted, written, readOut, carriedOut, performed}
+use Rattle.deeds.specs.Transfers.{Acted, written, readOut, carriedOut, performed}
 use Rattle.events.specs.declared.Event.{Event}
 use Rattle.events.specs.declared.Transfer.{Transfer}
 use Rattle.events.specs.declared.Transfer.the-variants.{Instruct, Write, Status, Read}

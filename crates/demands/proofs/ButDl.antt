@@ -19,7 +19,7 @@ use Rattle.controller.specs.Instructions as instructions
 use Rattle.controller.specs.Instructions.{withFunction, begun, obeyed, modes}
 use Rattle.controller.specs.Data.{movedOn}
 use Rattle.controller.specs.Named.{instructionNames, writeNames, readNames}
-use Rattle.controller.specs.Transfers.{Acted, acted, obeyedActed, executed, written, readOut, statusRead, carriedOut, performed}
+use Rattle.deeds.specs.Transfers.{Acted, acted, obeyedActed, executed, written, readOut, statusRead, carriedOut, performed}
 use Rattle.events.specs.declared.Transfer.{Transfer}
 use Rattle.events.specs.declared.Transfer.the-variants.{Instruct, Write, Status, Read}
 use Rattle.events.specs.declared.Deed.{Deed}

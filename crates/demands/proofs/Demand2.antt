@@ -8,7 +8,7 @@ use borrow.Author.Tests.{le-ltb}
 use Rattle.base.proofs.Counting.{count-none}
 use Rattle.base.proofs.Painting.{painted-none}
 use Rattle.controller.specs.Named.{covers}
-use Rattle.controller.specs.Transfers.{performed}
+use Rattle.deeds.specs.Transfers.{performed}
 use Rattle.events.specs.declared.Event.the-variants.{SelectLow}
 use Rattle.links.specs.declared.Link.{Link}
 use Rattle.links.specs.declared.Link.the-variants.{Serial}

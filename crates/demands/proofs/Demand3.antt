@@ -15,7 +15,7 @@ use Rattle.base.proofs.Tests.{or-neither}
 use Rattle.controller.specs.declared.Control.{Control}
 use Rattle.controller.specs.Memories.{Memories}
 use Rattle.controller.specs.Named.{covers}
-use Rattle.controller.specs.Transfers.{performed}
+use Rattle.deeds.specs.Transfers.{performed}
 use Rattle.events.specs.declared.Event.{Event}
 use Rattle.links.specs.declared.Taken.{Taken}
 use Rattle.links.specs.declared.Taken.the-variants.{OtherLink, Carries}

@@ -4,7 +4,7 @@ use mathlib.Core.List.{List, [], _∷_, _++_, map}
 use mathlib.Core.Path.{_≡_, refl, ap, _∙_}
 use native.Mathlib.Omega.{arith}
 use lib.ListN.{take, drop, replicate}
-use Rattle.controller.specs.Transfers.{performed}
+use Rattle.deeds.specs.Transfers.{performed}
 use Rattle.connector.specs.Items.{Item, write, besideWires, deed, Way, wholeBytes, halves, serial, bitsOf, wires, Alike, none, writes, events}
 use Rattle.connector.specs.Connector.{act}
 use Rattle.picture.specs.Picture.{Seen}

@@ -22,7 +22,7 @@ use Rattle.controller.specs.declared.Waiting.the-variants.{Nothing, Row}
 use Rattle.controller.specs.Memories.{Memories}
 use Rattle.controller.specs.Instructions.{pointed, stepped, withWaiting, obeyed}
 use Rattle.controller.specs.Data.{stored, found, moved, movedOn}
-use Rattle.controller.specs.Transfers.{executed, written, readOut, statusRead, carriedOut, performed}
+use Rattle.deeds.specs.Transfers.{executed, written, readOut, statusRead, carriedOut, performed}
 use Rattle.events.specs.declared.Event.{Event}
 use Rattle.events.specs.declared.Event.the-variants.{Transfer}
 use Rattle.events.specs.declared.Transfer.the-variants.{Instruct, Write}

@@ -13,7 +13,7 @@ use Rattle.controller.specs.Instructions.{obeyed}
 use Rattle.controller.specs.Data.{stored, found, moved, movedOn}
 use Rattle.controller.specs.Glass.{shownRow, shownWord}
 use Rattle.controller.specs.Named.{instructionNames, writeNames, readNames, inCell, covers}
-use Rattle.controller.specs.Transfers.{executed, written, readOut, statusRead, carriedOut, performed}
+use Rattle.deeds.specs.Transfers.{executed, written, readOut, statusRead, carriedOut, performed}
 use Rattle.events.specs.declared.Event.{Event}
 use Rattle.links.specs.declared.Taken.{Taken}
 use Rattle.links.specs.declared.Taken.the-variants.{OtherLink, Carries}

@@ -11,7 +11,7 @@ use Rattle.controller.specs.Memories.{Memories}
 use Rattle.controller.specs.State.{InRange}
 use Rattle.controller.specs.Instructions.{modes}
 use Rattle.controller.specs.Named.{covers}
-use Rattle.controller.specs.Transfers.{Acted, executed, statusRead, carriedOut, performed}
+use Rattle.deeds.specs.Transfers.{Acted, executed, statusRead, carriedOut, performed}
 use Rattle.events.specs.declared.Event.{Event}
 use Rattle.events.specs.declared.Transfer.{Transfer}
 use Rattle.events.specs.declared.Transfer.the-variants.{Instruct, Write, Status, Read}

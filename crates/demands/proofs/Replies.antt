@@ -8,7 +8,7 @@ use lib.Dec.{eqb}
 use Rattle.base.proofs.Choice.{either}
 use Rattle.controller.specs.declared.Control.{Control}
 use Rattle.controller.specs.Memories.{Memories}
-use Rattle.controller.specs.Transfers.{executed, written, carriedOut, performed}
+use Rattle.deeds.specs.Transfers.{executed, written, carriedOut, performed}
 use Rattle.events.specs.declared.Event.{Event}
 use Rattle.events.specs.declared.Event.the-variants.{Transfer, Bit, SelectLow, Reset}
 use Rattle.events.specs.declared.Transfer.the-variants.{Instruct, Write, Status, Read}

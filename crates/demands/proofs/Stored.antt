@@ -19,7 +19,7 @@ use Rattle.controller.specs.Memories.{Memories}
 use Rattle.controller.specs.Instructions.{stepped, withWaiting, obeyed}
 use Rattle.controller.specs.Data.{stored, moved, movedOn}
 use Rattle.controller.specs.Named.{counterCell, instructionNames, writeNames, covers}
-use Rattle.controller.specs.Transfers.{executed, written, carriedOut, performed}
+use Rattle.deeds.specs.Transfers.{executed, written, carriedOut, performed}
 use Rattle.connector.specs.Items.{WholeWrite, Item, Way, wholeBytes, halves, serial}
 use Rattle.connector.specs.Connector.{does}
 use Rattle.picture.specs.Picture.{Seen, wide}

@@ -10,7 +10,7 @@ use mathlib.Core.Path.{_≡_}
 use lib.ListN.{length, getD}
 use Rattle.base.specs.Choice.{if_then_else_}
 use Rattle.base.specs.Painting.{count}
-use Rattle.controller.specs.Transfers.{Acted, performed}
+use Rattle.deeds.specs.Transfers.{Acted, performed}
 use Rattle.events.specs.declared.Event.{Event}
 use Rattle.events.specs.declared.Transfer.{Transfer}
 use Rattle.events.specs.declared.Transfer.the-variants.{Write}

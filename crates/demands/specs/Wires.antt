@@ -9,7 +9,7 @@ use Rattle.base.specs.Bits.{bit}
 use Rattle.controller.specs.declared.Control.{Control}
 use Rattle.controller.specs.Memories.{Memories}
 use Rattle.controller.specs.Instructions.{withFunction}
-use Rattle.controller.specs.Transfers.{Acted, performed}
+use Rattle.deeds.specs.Transfers.{Acted, performed}
 use Rattle.events.specs.declared.Event.{Event}
 use Rattle.links.specs.declared.Link.{Link}
 use Rattle.events.specs.declared.Transfer.{Transfer}

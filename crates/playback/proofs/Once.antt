@@ -10,7 +10,7 @@ use lib.ListN.{length, replicate}
 use Rattle.base.specs.Bits as bits
 use Rattle.controller.specs.declared.Control.{Control}
 use Rattle.controller.specs.Memories.{Memories}
-use Rattle.controller.specs.Transfers.{performed}
+use Rattle.deeds.specs.Transfers.{performed}
 use Rattle.links.specs.declared.Link.{Link}
 use Rattle.links.specs.declared.Link.the-variants.{Parallel, Serial}
 use Rattle.links.specs.declared.Receiver.{Receiver}
@@ -22,6 +22,7 @@ use Rattle.events.specs.declared.Event.the-variants.{Bit}
 use Rattle.links.specs.declared.Rest.the-variants.{Stays}
 use Rattle.links.specs.Taken.{deedOf, takenBy}
 use Rattle.links.specs.Serial as serial
+use Rattle.connector.specs.Listened as listens
 use Rattle.connector.proofs.Seldom.{at-most-one-byte}
 use Rattle.picture.specs.Picture.{Seen}
 use Rattle.picture.specs.Refusals.{refusalOf}
@@ -47,8 +48,8 @@ Counted [] (n ∷ ns) = ⊥
 Counted (x ∷ xs) [] = ⊥
 Counted (x ∷ xs) (n ∷ ns) = (x ≡ received.Nothing → n ≡ 0) × (n ≤ 1024) × Counted xs ns
 
-none-counts : (xs : List Received) (ns : List ℕ) → Counted xs ns → serial.bytesIn xs ≡ 0 → ns ≡ replicate (length ns) 0
-unfolding Counted serial.bytesIn
+none-counts : (xs : List Received) (ns : List ℕ) → Counted xs ns → listens.bytesIn xs ≡ 0 → ns ≡ replicate (length ns) 0
+unfolding Counted listens.bytesIn
 none-counts [] [] c h = refl
 none-counts [] (n ∷ ns) c h = absurd c
 none-counts (x ∷ xs) [] c h = absurd c
@@ -63,12 +64,12 @@ zeros-sum (suc n) = omega (arith, zeros-sum n)
 one-counts :
     (xs : List Received) (ns : List ℕ)
     → Counted xs ns
-    → serial.bytesIn xs ≤ 1
+    → listens.bytesIn xs ≤ 1
     → 1 ≤ length ns
     → (k : ℕ)
     → k ≡ sum ns
     → OneCounts ns k
-unfolding Counted serial.bytesIn sum
+unfolding Counted listens.bytesIn sum
 one-counts [] [] c h l k is = absurd (omega arith)
 one-counts [] (n ∷ ns) c h l k is = absurd c
 one-counts (x ∷ xs) [] c h l k is = absurd c
@@ -121,8 +122,8 @@ module _ (e : Seen) where
   bits-counted :
       (bs : List Bool) (m : Memories) (c : Control) (r : Receiver) (f : List ℕ)
       → Fits f
-      → Counted (serial.listened r bs .brought) (countsInTurn e (state m c (Serial r)) f (map Bit bs))
-  unfolding Counted serial.listened countsInTurn
+      → Counted (listens.listened r bs .brought) (countsInTurn e (state m c (Serial r)) f (map Bit bs))
+  unfolding Counted listens.listened countsInTurn
   bits-counted [] m c r f fits = tt
   bits-counted (b ∷ bs) m c r f fits =
       let is = taken-bit m c r f b fits in
@@ -167,7 +168,7 @@ module _ (e : Seen) where
 
     heard-once : (r : Receiver) (f : List ℕ) → length bs ≤ 15 → Fits f → OneCounts (counts (Serial r) f) (count (Serial r) f)
     heard-once r f few fits =
-        one-counts (serial.listened r (b ∷ bs) .brought) (counts (Serial r) f)
+        one-counts (listens.listened r (b ∷ bs) .brought) (counts (Serial r) f)
         (bits-counted (b ∷ bs) m c r f fits)
         (at-most-one-byte r (b ∷ bs) (omega (arith, few)))
         (some-count (state m c (Serial r)) f)

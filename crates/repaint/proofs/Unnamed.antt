@@ -23,14 +23,14 @@ use Rattle.controller.specs.declared.Cell.{Cell}
 use Rattle.controller.specs.declared.Cell.the-variants.{Nowhere, Word}
 use Rattle.controller.specs.declared.Region.{Region}
 use Rattle.controller.specs.declared.Region.the-variants.{Nothing, Whole, Cells}
-use Rattle.controller.specs.declared.Done.{Done}
+use Rattle.deeds.specs.declared.Done.{Done}
 use Rattle.controller.specs.Memories.{Memories, memories}
 use Rattle.controller.specs.State.{InRange, limit}
 use Rattle.controller.specs.Instructions.{withPlace, begun, graphicAddressed, obeyed, cleared}
 use Rattle.controller.specs.Data.{isText, stored, nextCounter, counterAfter, moved, completes, shifts, movedOn, dummyRead}
 use Rattle.controller.specs.Glass.{shownWord}
 use Rattle.controller.specs.Named.{counterCell, bothCells, addressNames, instructionNames, writeByTarget, writeNames, readNames, inCell, inSomeCell, covers}
-use Rattle.controller.specs.Transfers.{written, readOut}
+use Rattle.deeds.specs.Transfers.{written, readOut}
 use Rattle.picture.specs.Picture.{Fonts, lookOf, atCounter, cellByte, graphicByte, byteAt}
 use Rattle.picture.proofs.Parts.{equal-parts-equal-bytes}
 use Rattle.repaint.proofs.Shows.{in-cell-shows, some-cell-shows}

@@ -5,7 +5,7 @@ use lib.ListN.{length}
 use mathlib.Core.Path.{_≡_, _∙_, sym}
 use native.Mathlib.Omega.{arith}
 use Rattle.controller.specs.State.{InRange}
-use Rattle.controller.proofs.Kept.{fresh-in-range}
+use Rattle.deeds.proofs.Kept.{fresh-in-range}
 use Rattle.timing.proofs.on_lent.Statement.{statement}
 use Rattle.timing.proofs.on_lent.Tie as tie
 

@@ -1,7 +1,7 @@
 -- The parts that the callees give.
 use borrow.Author.Needs.{needs}
 use Rattle.controller.specs.Memories.{freshMemories}
-use Rattle.controller.proofs.Kept.{fresh-valid}
+use Rattle.deeds.proofs.Kept.{fresh-valid}
 use Rattle.calls.specs.State.{freshState}
 use Rattle.panel.proofs.Panel.fresh.Statement.{statement}
 use Rattle.panel.proofs.Panel.fresh.Tie as tie

@@ -4,12 +4,12 @@ use mathlib.Core.Bool.{Bool, true, false, not, _&&_}
 use mathlib.Core.Path.{_≡_, refl}
 use Rattle.table.specs.declared.Instruction.the-variants.{Ignored}
 use Rattle.table.specs.Table.{said}
 use Rattle.controller.specs.declared.Control.{Control}
 use Rattle.controller.specs.declared.Region.the-variants.{Nothing}
 use Rattle.controller.specs.Memories.{Memories}
 use Rattle.controller.specs.Instructions.{obeyed, modes}
 use Rattle.controller.specs.Named.{instructionNames}
-use Rattle.controller.specs.Transfers.{acted, executed}
+use Rattle.deeds.specs.Transfers.{acted, executed}
 
 not-both : (b : Bool) → (b && not b) ≡ false
 not-both true = refl

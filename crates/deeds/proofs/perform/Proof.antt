@@ -1,9 +1,9 @@
 -- By the deed.
 use borrow.Author.Needs.{needs}
 use mathlib.Core.Path.{_∙_, ap}
-use Rattle.controller.specs.Transfers.{restarted, performed}
-use Rattle.controller.proofs.transfers.perform.Statement.{statement}
-use Rattle.controller.proofs.transfers.perform.Tie as tie
+use Rattle.deeds.specs.Transfers.{restarted, performed}
+use Rattle.deeds.proofs.perform.Statement.{statement}
+use Rattle.deeds.proofs.perform.Tie as tie
 
 pub perform-spec : {M : Type 1} → statement M
 unfolding performed

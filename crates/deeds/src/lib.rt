@@ -1,12 +1,11 @@
-// Each transfer whole, on lent memories.
-use crate::Control;
-use crate::Done;
-use crate::Region;
-use crate::data::find;
-use crate::data::store;
-use crate::named::instruction_names;
-use crate::named::read_names;
-use crate::named::write_names;
+// What reaches the controller is done here, and nowhere else: each transfer whole, and reset, on lent memories.
+use controller::Control;
+use controller::Region;
+use controller::data::find;
+use controller::data::store;
+use controller::named::instruction_names;
+use controller::named::read_names;
+use controller::named::write_names;
 use events::Deed;
 use events::Made;
 use events::Transfer;
@@ -14,10 +13,17 @@ use table::Touch;
 ghost use mathlib.Core.Path.{_≡_};
 ghost use mathlib.Core.List.{List};
 ghost use Prim.Native.Nat.{ℕ};
 ghost use Rattle.controller.specs.Memories.{memories, before, after};
 ghost use Rattle.controller.specs.State.{InRange};
 ghost use Rattle.controller.specs.Instructions.{cleared};
-ghost use Rattle.controller.specs.Transfers.{acted, executed, written, readOut, statusRead, carriedOut, restarted, performed};
+ghost use Rattle.deeds.specs.Transfers.{acted, executed, written, readOut, statusRead, carriedOut, restarted, performed};
+
+// What a transfer leaves beside the memories: the next controls, the reply, and what it names.
+pub struct Done {
+    pub control: Control,
+    pub reply: u8,
+    pub region: Region,
+}
 
 // Clear fills the text; no other instruction touches a memory.
 fn clear(text: &mut [u8; 128], touch: Touch)

@@ -1,10 +1,10 @@
 -- By the transfer.
 use borrow.Author.Needs.{needs}
 use mathlib.Core.Path.{ap}
 use Rattle.controller.specs.Memories.{memories}
-use Rattle.controller.specs.Transfers.{acted, carriedOut}
-use Rattle.controller.proofs.transfers.carry_out.Statement.{statement}
-use Rattle.controller.proofs.transfers.carry_out.Tie as tie
+use Rattle.deeds.specs.Transfers.{acted, carriedOut}
+use Rattle.deeds.proofs.carry_out.Statement.{statement}
+use Rattle.deeds.proofs.carry_out.Tie as tie
 
 pub carry-out-spec : {M : Type 1} → statement M
 unfolding carriedOut

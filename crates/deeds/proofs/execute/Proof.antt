@@ -1,9 +1,9 @@
 -- The parts that the callees give, for the entry that the table has for the byte.
 use borrow.Author.Needs.{needs}
-use Rattle.controller.specs.Transfers.{executed}
-use Rattle.controller.proofs.Kept.{obeyed-in-range}
-use Rattle.controller.proofs.transfers.execute.Statement.{statement}
-use Rattle.controller.proofs.transfers.execute.Tie as tie
+use Rattle.deeds.specs.Transfers.{executed}
+use Rattle.deeds.proofs.Kept.{obeyed-in-range}
+use Rattle.deeds.proofs.execute.Statement.{statement}
+use Rattle.deeds.proofs.execute.Tie as tie
 
 pub execute-spec : {M : Type 1} → statement M
 unfolding executed

@@ -9,14 +9,14 @@ use Rattle.events.specs.declared.Transfer.the-variants.{Instruct, Write, Status
 use Rattle.events.specs.declared.Made.{Made}
 use Rattle.events.specs.declared.Deed.{Deed}
 use Rattle.events.specs.declared.Deed.the-variants as deed
 use Rattle.controller.specs.declared.Control.{Control}
 use Rattle.controller.specs.declared.Region.the-variants.{Nothing, Whole}
-use Rattle.controller.specs.declared.Done.{Done}
+use Rattle.deeds.specs.declared.Done.{Done}
 use Rattle.controller.specs.Memories.{Memories, memories, freshMemories}
 use Rattle.controller.specs.State.{freshControl, remade}
 use Rattle.controller.specs.Instructions.{obeyed, cleared, modes}
 use Rattle.controller.specs.Data.{stored, found, movedOn, dummyRead}
 use Rattle.controller.specs.Named.{instructionNames, writeNames, readNames}
 
 -- what a transfer leaves: the memories, and the rest
 pub record Acted : Type 0 where

@@ -1,8 +1,8 @@
 -- The parts that the callees give.
 use borrow.Author.Needs.{needs}
 use Rattle.controller.specs.Memories.{freshMemories}
-use Rattle.controller.proofs.transfers.restart.Statement.{statement}
-use Rattle.controller.proofs.transfers.restart.Tie as tie
+use Rattle.deeds.proofs.restart.Statement.{statement}
+use Rattle.deeds.proofs.restart.Tie as tie
 
 pub restart-spec : {M : Type 1} → statement M
 unfolding freshMemories

@@ -1,9 +1,9 @@
 -- The parts that the callees give.
 use borrow.Author.Needs.{needs}
-use Rattle.controller.specs.Transfers.{written}
-use Rattle.controller.proofs.Kept.{movedOn-in-range}
-use Rattle.controller.proofs.transfers.write.Statement.{statement}
-use Rattle.controller.proofs.transfers.write.Tie as tie
+use Rattle.deeds.specs.Transfers.{written}
+use Rattle.deeds.proofs.Kept.{movedOn-in-range}
+use Rattle.deeds.proofs.write.Statement.{statement}
+use Rattle.deeds.proofs.write.Tie as tie
 
 pub write-spec : {M : Type 1} → statement M
 unfolding written

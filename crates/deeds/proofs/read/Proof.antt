@@ -1,9 +1,9 @@
 -- By whether a dummy read is due.
 use borrow.Author.Needs.{needs}
-use Rattle.controller.specs.Transfers.{readOut}
-use Rattle.controller.proofs.Kept.{dummyRead-in-range, movedOn-in-range}
-use Rattle.controller.proofs.transfers.read.Statement.{statement}
-use Rattle.controller.proofs.transfers.read.Tie as tie
+use Rattle.deeds.specs.Transfers.{readOut}
+use Rattle.deeds.proofs.Kept.{dummyRead-in-range, movedOn-in-range}
+use Rattle.deeds.proofs.read.Statement.{statement}
+use Rattle.deeds.proofs.read.Tie as tie
 
 pub read-spec : {M : Type 1} → statement M
 unfolding readOut

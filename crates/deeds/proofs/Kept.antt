@@ -21,17 +21,17 @@ use Rattle.events.specs.declared.Transfer.the-variants.{Instruct, Write, Status
 use Rattle.events.specs.declared.Made.{Made}
 use Rattle.events.specs.declared.Deed.{Deed}
 use Rattle.events.specs.declared.Deed.the-variants as deed
 use Rattle.controller.specs.declared.Waiting.{Waiting}
 use Rattle.controller.specs.declared.Waiting.the-variants as waiting
 use Rattle.controller.specs.declared.Place.{Place}
 use Rattle.controller.specs.declared.View.{View}
 use Rattle.controller.specs.declared.Control.{Control}
-use Rattle.controller.specs.declared.Done.{Done}
+use Rattle.deeds.specs.declared.Done.{Done}
 use Rattle.controller.specs.Memories.{Memories, memories, freshMemories}
 use Rattle.controller.specs.State.{freshControl, remade, limit, RowInRange, InRange, AllInRange}
 use Rattle.controller.specs.Instructions.{withPlace, withView, withWaiting, pointed, begun, home, stepped, displayMoved, graphicAddressed, reverseToggled, scrolled, obeyed, cleared, modes}
 use Rattle.controller.specs.Data.{stored, nextCounter, moved, shifts, movedOn, dummyRead}
-use Rattle.controller.specs.Transfers.{Acted, executed, written, readOut, statusRead, carriedOut, performed}
+use Rattle.deeds.specs.Transfers.{Acted, executed, written, readOut, statusRead, carriedOut, performed}
 
 record PlaceIn (p : Place) : Type 0 where
   counter : p .counter < limit (p .target)
