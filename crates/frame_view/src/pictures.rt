@@ -51,10 +51,10 @@ pub fn pbm(frame: &[u8; 1024]) -> [u8; 1034]
     ensures { λ r. ⌜ r ≡ pbmOf (now (frame .entry)) ⌝ }
 {
     let mut out = [0u8; 1034];
-    let mut i: usize = 0;
-    while i < 1034 {
-        out[i] = pbm_byte(frame, i);
-        i += 1;
+    let mut at: usize = 0;
+    while at < 1034 {
+        out[at] = pbm_byte(frame, at);
+        at += 1;
     }
     out
 }
