@@ -20,7 +20,7 @@ use Rattle.calls.specs.State.{State}
 use Rattle.calls.specs.Calls.{called, refused, afterCalls}
 use Rattle.demands.specs.Wires.{numbersOf}
 use Rattle.capture.specs.declared.Answer.{Answer}
-use Rattle.capture.specs.declared.Answer.the-variants.{Record, Short, WrongMark, WrongKind, WrongValue, End}
+use Rattle.capture.specs.declared.Answer.the-variants.{Record, Refused, End}
 use Rattle.capture.specs.Record.{kindByte, valueByte, readFirst, number}
 use Rattle.capture.specs.Capture.{Recorded, contents}
 use Rattle.printed.specs.Text.{RecordAnswer, lines, longestLine}
@@ -95,10 +95,10 @@ pub record Allowed (kind value : ℕ) : Type 0 where
 
 -- what stands at the beginning of a capture, with its number: 6 to 9 in their order; 0 for the end, and for a record
 pub data RecordSays (c : List ℕ) : Answer → ℕ → Type 0 where
-  remain : 1 ≤ length c → length c ≤ 3 → RecordSays c Short 6
-  mark : 4 ≤ length c → (Marked c → ⊥) → RecordSays c WrongMark 7
-  kind : 4 ≤ length c → Marked c → 6 < kindByte c → RecordSays c WrongKind 8
-  value : 4 ≤ length c → Marked c → kindByte c ≤ 6 → (Allowed (kindByte c) (valueByte c) → ⊥) → RecordSays c WrongValue 9
+  remain : 1 ≤ length c → length c ≤ 3 → RecordSays c (Refused 6) 6
+  mark : 4 ≤ length c → (Marked c → ⊥) → RecordSays c (Refused 7) 7
+  kind : 4 ≤ length c → Marked c → 6 < kindByte c → RecordSays c (Refused 8) 8
+  value : 4 ≤ length c → Marked c → kindByte c ≤ 6 → (Allowed (kindByte c) (valueByte c) → ⊥) → RecordSays c (Refused 9) 9
   end : length c ≡ 0 → RecordSays c End 0
   good : 4 ≤ length c → Marked c → kindByte c ≤ 6 → Allowed (kindByte c) (valueByte c) → RecordSays c (Record (kindByte c) (valueByte c)) 0
 

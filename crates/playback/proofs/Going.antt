@@ -19,7 +19,7 @@ use Rattle.calls.specs.Calls.{Called}
 use Rattle.capture.specs.declared.Answer.{Answer}
 use Rattle.capture.specs.declared.Answer.the-variants.{Record}
 use Rattle.capture.specs.Record.{number}
-use Rattle.capture.specs.Capture.{Contents, contents, readAt, passed, nextAt}
+use Rattle.capture.specs.Capture.{Contents, contents, readAt, passed}
 use Rattle.capture.proofs.Answers.{record-within}
 use Rattle.capture.proofs.Contents.{contents-at-record, contents-at-stop}
 use Rattle.printed.specs.Text.{RecordAnswer, line, lines, Put, Counts, longestLine, hasRoom}
@@ -166,7 +166,7 @@ module _ (e : Seen) (telling : Bool) (c : List ℕ) (s₀ : State) (f₀ : List 
     pub long : {kind value : ℕ} → readAt c at ≡ Record kind value → at + 4 ≤ length c
     long h = omega (arith, record-within (drop at c) h, length-drop at c, g .within)
 
-    pub further : {kind value at' : ℕ} → readAt c at ≡ Record kind value → at' ≡ nextAt c at → at' ≡ at + 4
+    pub further : {kind value at' : ℕ} → readAt c at ≡ Record kind value → at' ≡ at + passed (readAt c at) → at' ≡ at + 4
     further h next = next ∙ ap (λ (a : Answer). at + passed a) h
 
     pub sized : length text ≡ length text₀
@@ -257,7 +257,7 @@ module _ (e : Seen) (telling : Bool) (c : List ℕ) (s₀ : State) (f₀ : List 
 
       pub turns :
           {left : List ℕ} {next at' : ℕ}
-          → at' ≡ nextAt c at
+          → at' ≡ at + passed (readAt c at)
           → k .number ≡ 0
           → Valid (k .state)
           → Put text filled (toldBy telling (recordLine n kind k)) left next

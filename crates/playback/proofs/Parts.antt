@@ -15,10 +15,10 @@ use Rattle.picture.specs.Refusals.{refusalOf}
 use Rattle.calls.specs.State.{State}
 use Rattle.calls.specs.Calls.{Called}
 use Rattle.capture.specs.declared.Answer.{Answer}
-use Rattle.capture.specs.declared.Answer.the-variants.{Record, Short, WrongMark, WrongKind, WrongValue, End}
+use Rattle.capture.specs.declared.Answer.the-variants.{Record, Refused, End}
 use Rattle.capture.specs.Record.{number}
-use Rattle.capture.specs.Capture.{Recorded, Contents, contents, passed}
-use Rattle.capture.proofs.Contents.{joinedAt, contents-of-parts, contents-stop}
+use Rattle.capture.specs.Capture.{Recorded, Contents, contents}
+use Rattle.capture.proofs.Contents.{joinedAt, contents-of-parts, Stops, contents-stop}
 use Rattle.playback.specs.Records.{recordCalled}
 use Rattle.printed.specs.Text.{RecordAnswer, line, lines}
 use Rattle.playback.specs.Replay.{Ending, Replayed, Room, endless, bytes, roomFor, roomBehind, recordLine, ended, halted, unroomed, answerFrom, afterAnswer, unlessRefused, recordsReplayed, contentsReplayed, replayed}
@@ -106,14 +106,11 @@ module _ (e : Seen) where
 
   replayed-by-stop :
       (room : Room) (xs : List Recorded) (a : Answer) (c : Contents) (s : State) (f : List ℕ) (n : ℕ)
-      → passed a ≡ 0
+      → Stops a
       → contentsReplayed e room (joinedAt a (record { records = xs; stop = a }) c) s f n ≡ goneOver room n c (recordsReplayed e (number a) room xs s f n)
-  replayed-by-stop room xs (Record kind value) c s f n h = absurd (omega arith)
+  replayed-by-stop room xs (Record kind value) c s f n h = absurd h
   replayed-by-stop room xs End c s f n h = records-joined room xs c s f n
-  replayed-by-stop room xs Short c s f n h = rw (stays-refused 6 refl room xs s f n)
-  replayed-by-stop room xs WrongMark c s f n h = rw (stays-refused 7 refl room xs s f n)
-  replayed-by-stop room xs WrongKind c s f n h = rw (stays-refused 8 refl room xs s f n)
-  replayed-by-stop room xs WrongValue c s f n h = rw (stays-refused 9 refl room xs s f n)
+  replayed-by-stop room xs (Refused m) c s f n h = rw (stays-refused m h room xs s f n)
 
   replayed-length :
       (last : ℕ) (room : Room) (xs : List Recorded) (s : State) (f : List ℕ) (n : ℕ)
