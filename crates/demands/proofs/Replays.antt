@@ -28,11 +28,11 @@ use Rattle.capture.specs.Kinds.{kindOf}
 use Rattle.capture.specs.Record.{number}
 use Rattle.capture.specs.Capture.{Recorded, contents}
 use Rattle.playback.specs.Records.{calledOn, firstNumber, calledInTurn, recordCalled}
-use Rattle.playback.specs.Replay.{Replayed, answerFrom, Room, endless, bytes, roomFor, roomBehind, recordLine, recordsReplayed, contentsReplayed, replayed, lastOr}
-use Rattle.playback.specs.Transcript.{transcribed}
+use Rattle.playback.specs.Replay.{Replayed, Room, endless, bytes, roomFor, roomBehind, recordsReplayed, replayed}
+use Rattle.playback.specs.Transcript.{lastOr, transcribed}
 use Rattle.boundary.specs.Report.{freshReplay}
-use Rattle.playback.proofs.Refused.{one-or-bits, called-on-accepted, record-length}
-use Rattle.playback.proofs.Parts.{replayed-place}
+use Rattle.playback.proofs.Refused.{answerFrom, one-or-bits, called-on-accepted, record-length}
+use Rattle.playback.proofs.Parts.{contentsReplayed, replayed-place}
 use Rattle.demands.specs.Captures.{callsOf, callsOfAll, lastReply, sumOfCounts, answerOf, answersOf}
 use Rattle.demands.specs.Demand1.{TableSays, isSerial, ofOtherLink, firstOfOtherLink, NoRoom, lineTooLong, uncounted, StopsAt, behindAll, atRecord, noRoom, ReplayStops, TranscriptRefuses, TranscriptTells, ExportedReplayRefuses}
 use Rattle.demands.proofs.Tables.{orOther, table-number}
@@ -203,7 +203,7 @@ module _ (e : Seen) (last : ℕ) where
   records-obey room (r ∷ rs) s frame n fits =
       let k = carried e r s frame in
       let number = record-number e s frame fits r in
-      let behind = roomBehind room (recordLine n (r .kind) k) in
+      let behind = roomBehind room (line n (answerFrom (r .kind) k)) in
       by-test (roomFor room n)
       (λ q. by-test (eqb (k .number) 0)
       (λ t.

@@ -18,8 +18,10 @@ use Rattle.capture.specs.Record.{readFirst, number}
 use Rattle.capture.specs.Capture.{Recorded, Contents, readOn, contents}
 use Rattle.capture.proofs.Answers.{four-are-no-end, Numbered, read-numbered}
 use Rattle.playback.specs.Records.{recordCalled}
-use Rattle.playback.specs.Replay.{Replayed, Room, bytes, roomFor, roomBehind, recordLine, recordsReplayed, replayed}
+use Rattle.playback.specs.Replay.{Replayed, Room, bytes, roomFor, roomBehind, recordsReplayed, replayed}
+use Rattle.printed.specs.Text.{line}
 use Rattle.playback.specs.Transcript.{Told, transcribed}
+use Rattle.playback.proofs.Refused.{answerFrom}
 
 -- it came to its end
 abbrev Ended : ℕ → ℕ → ℕ → Replayed → Type 0
@@ -34,7 +36,7 @@ module _ (e : Seen) (last : ℕ) where
       either-told (Ended last n (length (r ∷ rs))) (not (roomFor room n))
       (λ t z q. absurd (true≢false q))
       (λ t. either-told (Ended last n (length (r ∷ rs))) (eqb (k .number) 0)
-      (λ a z q. let on = all-replayed (roomBehind room (recordLine n (r .kind) k)) rs (k .state) (k .frame) (n + 1) z q in (on .0, omega (arith, on .1)))
+      (λ a z q. let on = all-replayed (roomBehind room (line n (answerFrom (r .kind) k))) rs (k .state) (k .frame) (n + 1) z q in (on .0, omega (arith, on .1)))
       (λ a z q. absurd (eqb-false (k .number) 0 a z)))
 
 -- what stops the reading with number 0 is the end, four bytes after each record
