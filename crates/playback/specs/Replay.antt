@@ -32,7 +32,7 @@ pub record Replayed : Type 0 where
   pub answers : List RecordAnswer
   pub ending : Ending
 
--- one that stops at once
+-- one that stops at once, with a number or for want of room
 abbrev pub halted : State → List ℕ → ℕ → ℕ → Bool → Replayed
 halted s frame place number full =
     record { answers = []; ending = record { state = s; frame = frame; place = place; number = number; full = full } }
@@ -65,8 +65,9 @@ recordsReplayed e last room [] s frame place = halted s frame place last false
 recordsReplayed e last room (r ∷ rs) s frame place =
     let k : Called = recordCalled e (r .kind) (r .value) s frame in
     let a : RecordAnswer = recordAnswer (r .kind) (k .reply) (k .count) in
+    let on : Replayed = recordsReplayed e last (roomBehind room (line place a)) rs (k .state) (k .frame) (place + 1) in
     if not (roomFor room place) then halted s frame place 0 true
-    else if eqb (k .number) 0 then afterAnswers (a ∷ []) (recordsReplayed e last (roomBehind room (line place a)) rs (k .state) (k .frame) (place + 1))
+    else if eqb (k .number) 0 then afterAnswers (a ∷ []) on
     else halted s frame place (k .number) false
 
 -- a replay from a number of accepted records on: refusals 1, 2, 3 before anything is read

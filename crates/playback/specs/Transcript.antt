@@ -31,8 +31,8 @@ lastOr a (b ∷ more) = lastOr b more
 abbrev pub toldBy : Bool → List ℕ → List ℕ
 toldBy telling text = if telling then text else []
 
--- what is told of a replay: reply 0 and count 0 where no record was accepted; where lines are, those of its answers, in their order, stand at the beginning of the buffer, and all else in
--- it is as it was
+-- what is told of a replay: its last answer's reply and count, 0 and 0 where there is none; and where lines are told, those of its answers,
+-- in their order, stand at the beginning of the buffer, and all else in it is as it was
 abbrev pub told : Bool → ℕ → List ℕ → Replayed → Told
 told telling place text r =
     let last : RecordAnswer = lastOr (recordAnswer 0 0 0) (r .answers) in
