@@ -1,18 +1,20 @@
 -- Laws of a capture read through: a record, then what comes after it; a part of whole records, then the next part.
 use Prim.Native.Nat.{ℕ, _+_, _%_, _≤_}
+use mathlib.Core.Bool.{false}
 use mathlib.Core.List.{List, [], _∷_, _++_}
 use mathlib.Core.Path.{_≡_, refl, ap, _∙_}
 use native.Mathlib.Nat.{min-eq-left}
 use native.Mathlib.Omega.{arith}
+use lib.Dec.{eqb}
 use lib.ListN.{length, drop, length-drop}
 use lib.Seq.{drop-drop}
 use denote.Ref.{RefT, now}
 use Rattle.capture.specs.declared.Answer.{Answer}
-use Rattle.capture.specs.declared.Answer.the-variants.{Record, Short, WrongMark, WrongKind, WrongValue, End}
+use Rattle.capture.specs.declared.Answer.the-variants.{Record, Refused, End}
 use Rattle.capture.specs.Record.{readFirst}
 use Rattle.capture.specs.Part.{from}
-use Rattle.capture.specs.Capture.{readAt, passed, partFrom, stepAt, Contents, noMore, followed, readOn, contents}
-use Rattle.capture.proofs.Answers.{answer-of-front, four-are-no-end, record-within}
+use Rattle.capture.specs.Capture.{readAt, passed, partFrom, stepAt, Contents, noMore, readOn, contents}
+use Rattle.capture.proofs.Answers.{answer-of-front, four-are-no-end, record-within, Numbered, read-numbered}
 
 -- a record read leaves the rest of the caller's own capture, beginning after it
 pub rest-after-record :
@@ -34,66 +36,59 @@ contents-turn (a ∷ b ∷ d ∷ e ∷ c) = refl
 
 pub contents-at-record :
     (c : List ℕ) (at : ℕ) {kind value : ℕ}
-    → readAt c at ≡ Record kind value → contents (drop at c) ≡ followed kind value (contents (drop (at + 4) c))
+    → readAt c at ≡ Record kind value → contents (drop at c) ≡ readOn (Record kind value) (contents (drop (at + 4) c))
 contents-at-record c at {kind} {value} h =
     contents-turn (drop at c)
     ∙ ap (λ (a : Answer). readOn a (contents (drop 4 (drop at c)))) h
-    ∙ ap (λ (s : List ℕ). followed kind value (contents s)) (drop-drop 4 at c)
+    ∙ ap (λ (s : List ℕ). readOn (Record kind value) (contents s)) (drop-drop 4 at c)
 
 stops : (a : Answer) (on : Contents) → passed a ≡ 0 → readOn a on ≡ noMore a
 stops (Record kind value) on h = absurd (omega arith)
-stops Short on h = refl
-stops WrongMark on h = refl
-stops WrongKind on h = refl
-stops WrongValue on h = refl
+stops (Refused m) on h = refl
 stops End on h = refl
 
 pub contents-at-stop : (c : List ℕ) (at : ℕ) → passed (readAt c at) ≡ 0 → contents (drop at c) ≡ noMore (readAt c at)
 contents-at-stop c at h = contents-turn (drop at c) ∙ stops (readAt c at) _ h
 
-goes-on-to-stop : (a : Answer) (on : Contents) → passed (on .stop) ≡ 0 → passed (readOn a on .stop) ≡ 0
-goes-on-to-stop (Record kind value) on h = h
-goes-on-to-stop Short on h = refl
-goes-on-to-stop WrongMark on h = refl
-goes-on-to-stop WrongKind on h = refl
-goes-on-to-stop WrongValue on h = refl
-goes-on-to-stop End on h = refl
+-- where reading stops: at no record
+abbrev pub Stops : Answer → Type 0
+Stops (Record kind value) = ⊥
+Stops (Refused m) = eqb m 0 ≡ false
+Stops End = Unit {0}
 
--- reading does not stop at a record
-pub contents-stop : (c : List ℕ) → passed (contents c .stop) ≡ 0
+goes-on-to-stop : (a : Answer) (on : Contents) → Numbered a → Stops (on .stop) → Stops (readOn a on .stop)
+goes-on-to-stop (Record kind value) on n h = h
+goes-on-to-stop (Refused m) on n h = n
+goes-on-to-stop End on n h = tt
+
+pub contents-stop : (c : List ℕ) → Stops (contents c .stop)
 unfolding contents readFirst
-contents-stop [] = refl
+contents-stop [] = tt
 contents-stop (a ∷ []) = refl
 contents-stop (a ∷ b ∷ []) = refl
 contents-stop (a ∷ b ∷ d ∷ []) = refl
-contents-stop (a ∷ b ∷ d ∷ e ∷ c) = goes-on-to-stop (readFirst (a ∷ b ∷ d ∷ e ∷ c)) (contents c) (contents-stop c)
+contents-stop (a ∷ b ∷ d ∷ e ∷ c) =
+    goes-on-to-stop (readFirst (a ∷ b ∷ d ∷ e ∷ c)) (contents c) (read-numbered (a ∷ b ∷ d ∷ e ∷ c)) (contents-stop c)
 
 -- the contents of one part, then those of the next where the first was read to its end
 abbrev pub joinedAt : Answer → Contents → Contents → Contents
 joinedAt End x y = record { records = x .records ++ y .records; stop = y .stop }
 joinedAt (Record kind value) x y = x
-joinedAt Short x y = x
-joinedAt WrongMark x y = x
-joinedAt WrongKind x y = x
-joinedAt WrongValue x y = x
+joinedAt (Refused m) x y = x
 
 abbrev pub joined : Contents → Contents → Contents
 joined x y = joinedAt (x .stop) x y
 
-followed-joined : (a : Answer) (kind value : ℕ) (x y : Contents) → followed kind value (joinedAt a x y) ≡ joinedAt a (followed kind value x) y
-followed-joined End kind value x y = refl
-followed-joined (Record k v) kind value x y = refl
-followed-joined Short kind value x y = refl
-followed-joined WrongMark kind value x y = refl
-followed-joined WrongKind kind value x y = refl
-followed-joined WrongValue kind value x y = refl
+record-joined :
+    (a : Answer) (kind value : ℕ) (x y : Contents)
+    → readOn (Record kind value) (joinedAt a x y) ≡ joinedAt a (readOn (Record kind value) x) y
+record-joined End kind value x y = refl
+record-joined (Record k v) kind value x y = refl
+record-joined (Refused m) kind value x y = refl
 
 goes-on-joined : (a : Answer) (x y : Contents) → (a ≡ End → ⊥) → readOn a (joined x y) ≡ joined (readOn a x) y
-goes-on-joined (Record kind value) x y never = followed-joined (x .stop) kind value x y
-goes-on-joined Short x y never = refl
-goes-on-joined WrongMark x y never = refl
-goes-on-joined WrongKind x y never = refl
-goes-on-joined WrongValue x y never = refl
+goes-on-joined (Record kind value) x y never = record-joined (x .stop) kind value x y
+goes-on-joined (Refused m) x y never = refl
 goes-on-joined End x y never = absurd (never refl)
 
 -- a capture cut into parts of whole records has the records of its parts

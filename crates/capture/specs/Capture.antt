@@ -4,7 +4,7 @@ use mathlib.Core.List.{List, [], _∷_}
 use lib.ListN.{length, drop}
 use denote.Ref.{RefT, now}
 use Rattle.capture.specs.declared.Answer.{Answer}
-use Rattle.capture.specs.declared.Answer.the-variants.{Record, Short, WrongMark, WrongKind, WrongValue, End}
+use Rattle.capture.specs.declared.Answer.the-variants.{Record, Refused, End}
 use Rattle.capture.specs.declared.Step.{Step}
 use Rattle.capture.specs.Record.{readFirst}
 use Rattle.capture.specs.Part.{Part, from}
@@ -12,10 +12,7 @@ use Rattle.capture.specs.Part.{Part, from}
 -- how many bytes are passed: a record's four, or none
 abbrev pub passed : Answer → ℕ
 passed (Record kind value) = 4
-passed Short = 0
-passed WrongMark = 0
-passed WrongKind = 0
-passed WrongValue = 0
+passed (Refused n) = 0
 passed End = 0
 
 -- the caller's own capture from a position on: each record read leaves the rest of it, beginning after the record
@@ -27,13 +24,9 @@ partFrom s at = from (min at (length (now s))) s
 abbrev pub readAt : List ℕ → ℕ → Answer
 readAt c at = readFirst (drop at c)
 
--- the position after the record at a position; where there is no record, that position
-abbrev pub nextAt : List ℕ → ℕ → ℕ
-nextAt c at = at + passed (readAt c at)
-
--- what stands at a position, and the position from which the rest is read
+-- what stands at a position, and the position from which the rest is read: after the record, or the same where there is none
 abbrev pub stepAt : List ℕ → ℕ → Step
-stepAt c at = record { answer = readAt c at; next = nextAt c at }
+stepAt c at = record { answer = readAt c at; next = at + passed (readAt c at) }
 
 -- a record's two numbers
 pub record Recorded : Type 0 where
@@ -48,16 +41,10 @@ pub record Contents : Type 0 where
 abbrev pub noMore : Answer → Contents
 noMore a = record { records = []; stop = a }
 
-abbrev pub followed : ℕ → ℕ → Contents → Contents
-followed kind value on = record { records = record { kind = kind; value = value } ∷ on .records; stop = on .stop }
-
 -- a record is followed by what comes after it; anything else stops the reading
 abbrev pub readOn : Answer → Contents → Contents
-readOn (Record kind value) on = followed kind value on
-readOn Short on = noMore Short
-readOn WrongMark on = noMore WrongMark
-readOn WrongKind on = noMore WrongKind
-readOn WrongValue on = noMore WrongValue
+readOn (Record kind value) on = record { records = record { kind = kind; value = value } ∷ on .records; stop = on .stop }
+readOn (Refused n) on = noMore (Refused n)
 readOn End on = noMore End
 
 -- by four bytes at a time; fewer are no record

@@ -1,8 +1,9 @@
 -- Document 01, "Captures": the kinds of records. What holds of a kind is a table with a clause for each.
 use Prim.Native.Nat.{ℕ}
 use mathlib.Core.Bool.{Bool, true, false}
+use mathlib.Core.List.{List, [], _∷_}
 use lib.Dec.{eqb, leb}
-use Rattle.base.specs.Choice.{if_then_else_}
+use lib.ListN.{getD}
 
 pub data Kind : Type 0 where
   instructionWrite : Kind
@@ -13,20 +14,17 @@ pub data Kind : Type 0 where
   chipSelectLow : Kind
   reset : Kind
 
+-- in the order of their numbers, from 0 on
+abbrev pub kinds : List Kind
+kinds = instructionWrite ∷ dataWrite ∷ statusRead ∷ dataRead ∷ eightBits ∷ chipSelectLow ∷ reset ∷ []
+
 -- refusal 8: a kind above 6
 abbrev pub known : ℕ → Bool
 known number = leb number 6
 
--- by their numbers
+-- the kind with a number (one that is not known is refused before)
 unfoldable pub kindOf : ℕ → Kind
-kindOf number =
-    if eqb number 0 then instructionWrite
-    else if eqb number 1 then dataWrite
-    else if eqb number 2 then statusRead
-    else if eqb number 3 then dataRead
-    else if eqb number 4 then eightBits
-    else if eqb number 5 then chipSelectLow
-    else reset
+kindOf number = getD kinds number reset
 
 -- refusal 9: kinds 2, 3, 5 need value 0; 6 needs 0 or 1
 abbrev pub allowed : Kind → ℕ → Bool

@@ -6,7 +6,7 @@ use lib.Dec.{eqb, leb}
 use lib.ListN.{length, getD}
 use Rattle.base.specs.Choice.{if_then_else_}
 use Rattle.capture.specs.declared.Answer.{Answer}
-use Rattle.capture.specs.declared.Answer.the-variants.{Record, Short, WrongMark, WrongKind, WrongValue, End}
+use Rattle.capture.specs.declared.Answer.the-variants.{Record, Refused, End}
 use Rattle.capture.specs.Kinds.{known, kindOf, allowed}
 
 -- a record is the mark A5h 5Ah, a kind, a value
@@ -19,30 +19,25 @@ kindByte c = getD c 2 0
 abbrev pub valueByte : List ℕ → ℕ
 valueByte c = getD c 3 0
 
--- what stands at the beginning of a capture: where none is left the end, else tested in the order 6, 7, 8, 9
+-- what stands at the beginning of a capture: where none is left the end, else the refusals in their order (6: 1 to 3 bytes remain; 7: mark
+-- wrong; 8: kind above 6; 9: value not allowed), else a record
 unfoldable pub readFirst : List ℕ → Answer
 readFirst c =
     if eqb (length c) 0 then End
-    else if leb (length c) 3 then Short
-    else if not (marked (getD c 0 0) (getD c 1 0)) then WrongMark
-    else if not (known (kindByte c)) then WrongKind
-    else if not (allowed (kindOf (kindByte c)) (valueByte c)) then WrongValue
+    else if leb (length c) 3 then Refused 6
+    else if not (marked (getD c 0 0) (getD c 1 0)) then Refused 7
+    else if not (known (kindByte c)) then Refused 8
+    else if not (allowed (kindOf (kindByte c)) (valueByte c)) then Refused 9
     else Record (kindByte c) (valueByte c)
 
--- the refusals: 6 where 1 to 3 bytes remain, 7 mark wrong, 8 kind above 6, 9 value not allowed; a record and the end have number 0
+-- a refusal's number; a record and the end have number 0
 abbrev pub number : Answer → ℕ
 number (Record kind value) = 0
-number Short = 6
-number WrongMark = 7
-number WrongKind = 8
-number WrongValue = 9
+number (Refused n) = n
 number End = 0
 
 -- a record's two numbers; the other answers have none
 abbrev pub values : Answer → List ℕ
 values (Record kind value) = kind ∷ value ∷ []
-values Short = []
-values WrongMark = []
-values WrongKind = []
-values WrongValue = []
+values (Refused n) = []
 values End = []

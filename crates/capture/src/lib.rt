@@ -6,13 +6,10 @@ ghost use Rattle.capture.specs.Part.{lent};
 ghost use Rattle.capture.specs.Capture.{passed, partFrom, stepAt};
 ghost use Rattle.capture.specs.Reader.{over, readerStep};
 
-// What stands in a capture: a record with its two numbers, or why there is none.
+// What stands in a capture: a record with its two numbers, or why there is none: a refusal, by its number, or the capture's end.
 pub enum Answer {
     Record { kind: u8, value: u8 },
-    Short,
-    WrongMark,
-    WrongKind,
-    WrongValue,
+    Refused(u8),
     End,
 }
 
@@ -23,10 +20,7 @@ impl Answer {
     {
         match self {
             Answer::Record { kind: _, value: _ } => 0,
-            Answer::Short => 6,
-            Answer::WrongMark => 7,
-            Answer::WrongKind => 8,
-            Answer::WrongValue => 9,
+            Answer::Refused(number) => number,
             Answer::End => 0,
         }
     }
@@ -37,10 +31,7 @@ impl Answer {
     {
         match self {
             Answer::Record { kind: _, value: _ } => 4,
-            Answer::Short => 0,
-            Answer::WrongMark => 0,
-            Answer::WrongKind => 0,
-            Answer::WrongValue => 0,
+            Answer::Refused(_) => 0,
             Answer::End => 0,
         }
     }
@@ -79,18 +70,18 @@ pub fn read(capture: &[u8]) -> Answer
         return Answer::End;
     }
     if capture.len() <= 3 {
-        return Answer::Short;
+        return Answer::Refused(6);
     }
     if !marked(capture[0], capture[1]) {
-        return Answer::WrongMark;
+        return Answer::Refused(7);
     }
     let kind = capture[2];
     if !known(kind) {
-        return Answer::WrongKind;
+        return Answer::Refused(8);
     }
     let value = capture[3];
     if !allowed(kind, value) {
-        return Answer::WrongValue;
+        return Answer::Refused(9);
     }
     Answer::Record { kind, value }
 }

@@ -7,9 +7,9 @@ use mathlib.Core.Path.{_≡_, refl, sym, ap, _∙_}
 use native.Mathlib.Omega.{arith}
 use lib.ListN.{length, take, replicate, length-append}
 use lib.Dec.{eqb, leb, ltb}
-use borrow.Author.Tests.{eqb-true, eqb-false, eq-eqb, not-false, leb-false, ltb-false}
+use borrow.Author.Tests.{eqb-true, eqb-false, eq-eqb, not-true, not-false, leb-false, ltb-false}
 use Rattle.base.specs.Choice.{if_then_else_}
-use Rattle.base.proofs.Choice.{by-test}
+use Rattle.base.proofs.Choice.{by-test, either-told}
 use Rattle.links.specs.declared.Link.{Link}
 use Rattle.links.specs.declared.Link.the-variants.{Parallel, Serial}
 use Rattle.events.specs.declared.Event.{Event}
@@ -28,11 +28,11 @@ use Rattle.capture.specs.Kinds.{kindOf}
 use Rattle.capture.specs.Record.{number}
 use Rattle.capture.specs.Capture.{Recorded, contents}
 use Rattle.playback.specs.Records.{calledOn, firstNumber, calledInTurn, recordCalled}
-use Rattle.playback.specs.Replay.{Replayed, answerFrom, Room, endless, bytes, roomFor, roomBehind, recordLine, recordsReplayed, contentsReplayed, replayed, lastOr}
-use Rattle.playback.specs.Transcript.{transcribed}
+use Rattle.playback.specs.Replay.{Replayed, halted, afterAnswers, Room, endless, bytes, roomFor, roomBehind, recordsReplayed, replayed}
+use Rattle.playback.specs.Transcript.{lastOr, transcribed}
 use Rattle.boundary.specs.Report.{freshReplay}
-use Rattle.playback.proofs.Refused.{one-or-bits, called-on-accepted, record-length}
-use Rattle.playback.proofs.Parts.{replayed-place}
+use Rattle.playback.proofs.Refused.{answerFrom, one-or-bits, called-on-accepted, record-length}
+use Rattle.playback.proofs.Parts.{contentsReplayed, replayed-place}
 use Rattle.demands.specs.Captures.{callsOf, callsOfAll, lastReply, sumOfCounts, answerOf, answersOf}
 use Rattle.demands.specs.Demand1.{TableSays, isSerial, ofOtherLink, firstOfOtherLink, NoRoom, lineTooLong, uncounted, StopsAt, behindAll, atRecord, noRoom, ReplayStops, TranscriptRefuses, TranscriptTells, ExportedReplayRefuses}
 use Rattle.demands.proofs.Tables.{orOther, table-number}
@@ -194,47 +194,61 @@ module _ (e : Seen) (last : ℕ) where
     stands : standsAt (r .ending .state) (r .ending .frame) ≡ afterCalls e s frame (callsOfAll (take (length (r .answers)) rs))
     answers : r .answers ≡ answersOf e s frame (take (length (r .answers)) rs)
 
-  records-obey :
-      (room : Room) (rs : List Recorded) (s : State) (frame : List ℕ) (n : ℕ)
+  -- an accepted record, and a replay behind it
+  one-obeys :
+      (room : Room) (r : Recorded) (rs : List Recorded) (s : State) (frame : List ℕ) (n : ℕ) (on : Replayed)
       → Fits e frame
-      → Obeys room n rs s frame (recordsReplayed e last room rs s frame n)
-  unfolding recordsReplayed afterCalls answers answersOf flatten
-  records-obey room [] s frame n fits = record { stops = behindAll refl refl refl; accepted = refl; stands = refl; answers = refl }
-  records-obey room (r ∷ rs) s frame n fits =
+      → carried e r s frame .number ≡ 0
+      → Obeys (roomBehind room (line n (answerFrom (r .kind) (carried e r s frame)))) (n + 1) rs (carried e r s frame .state) (carried e r s frame .frame) on
+      → Obeys room n (r ∷ rs) s frame (afterAnswers (answerFrom (r .kind) (carried e r s frame) ∷ []) on)
+  unfolding afterCalls answers answersOf flatten
+  one-obeys room r rs s frame n on fits z obeys =
       let k = carried e r s frame in
-      let number = record-number e s frame fits r in
-      let behind = roomBehind room (recordLine n (r .kind) k) in
-      by-test (roomFor room n)
-      (λ q. by-test (eqb (k .number) 0)
-      (λ t.
-      let z = eqb-true (k .number) 0 t in
       let does = record-does e r s frame z in
-      let on = records-obey behind rs (k .state) (k .frame) (n + 1) (rw (record-length e (r .kind) (r .value) s frame) fits) in
-      let told = take (length (recordsReplayed e last behind rs (k .state) (k .frame) (n + 1) .answers)) rs in
+      let told = take (length (on .answers)) rs in
       let more = callsOfAll told in
-      rw (q, t)
-      (record {
-        stops = one-more r (answerFrom (r .kind) k) (on .stops);
+      record {
+        stops = one-more r (answerFrom (r .kind) k) (obeys .stops);
         accepted =
             numbers-append e (callsOf r) more s frame
             ∙ ap (λ (x : Stands). numbersOf e s frame (callsOf r) ++ numbersOf e (x .state) (x .frame) more) does
             ∙ ap (λ (ns : List ℕ). ns ++ numbersOf e (k .state) (k .frame) more)
-            (record-accepted e r s frame fits (number-tells e _ (k .number) number z))
-            ∙ ap (λ (ns : List ℕ). replicate (length (callsOf r)) 0 ++ ns) (on .accepted)
+            (record-accepted e r s frame fits (number-tells e _ (k .number) (record-number e s frame fits r) z))
+            ∙ ap (λ (ns : List ℕ). replicate (length (callsOf r)) 0 ++ ns) (obeys .accepted)
             ∙ sym (zeros-append (callsOf r) more);
         stands =
-            on .stands
+            obeys .stands
             ∙ ap (λ (x : Stands). afterCalls e (x .state) (x .frame) more) (sym does)
             ∙ sym (after-append e (callsOf r) more s frame);
         answers =
-            ap (λ (l : List RecordAnswer). answerFrom (r .kind) k ∷ l) (on .answers)
+            ap (λ (l : List RecordAnswer). answerFrom (r .kind) k ∷ l) (obeys .answers)
             ∙ ap (λ (a : RecordAnswer). a ∷ answersOf e (k .state) (k .frame) told) (record-answers e r s frame z)
             ∙ ap (λ (x : Stands). answerOf e s frame r ∷ answersOf e (x .state) (x .frame) told) (sym does);
-      }))
-      (λ t.
-      let other = number-tells-not e _ (k .number) number (eqb-false (k .number) 0 t) in
-      rw (q, t) (record { stops = atRecord r rs refl (other .0) (other .1) refl; accepted = refl; stands = refl; answers = refl })))
-      (λ q. rw q (record { stops = noRoom r rs refl (none-left room n q) refl refl; accepted = refl; stands = refl; answers = refl }))
+      }
+
+  -- a replay that stops at once
+  halted-obeys :
+      (room : Room) (rs : List Recorded) (s : State) (frame : List ℕ) (n number : ℕ) (full : Bool)
+      → StopsAt rs last room n [] number full (s .link)
+      → Obeys room n rs s frame (halted s frame n number full)
+  unfolding afterCalls answers answersOf flatten
+  halted-obeys room rs s frame n number full stops = record { stops = stops; accepted = refl; stands = refl; answers = refl }
+
+  records-obey :
+      (room : Room) (rs : List Recorded) (s : State) (frame : List ℕ) (n : ℕ)
+      → Fits e frame
+      → Obeys room n rs s frame (recordsReplayed e last room rs s frame n)
+  unfolding recordsReplayed
+  records-obey room [] s frame n fits = halted-obeys room [] s frame n last false (behindAll refl refl refl)
+  records-obey room (r ∷ rs) s frame n fits =
+      let k = carried e r s frame in
+      either-told (Obeys room n (r ∷ rs) s frame) (not (roomFor room n))
+      (λ q. halted-obeys room (r ∷ rs) s frame n 0 true (noRoom r rs refl (none-left room n (not-true (roomFor room n) q)) refl refl))
+      (λ q. either-told (Obeys room n (r ∷ rs) s frame) (eqb (k .number) 0)
+      (λ t. one-obeys room r rs s frame n _ fits (eqb-true (k .number) 0 t)
+      (records-obey (roomBehind room (line n (answerFrom (r .kind) k))) rs (k .state) (k .frame) (n + 1) (rw (record-length e (r .kind) (r .value) s frame) fits)))
+      (λ t. let other = number-tells-not e _ (k .number) (record-number e s frame fits r) (eqb-false (k .number) 0 t) in
+      halted-obeys room (r ∷ rs) s frame n (k .number) false (atRecord r rs refl (other .0) (other .1) refl)))
 
 module _ (e : Seen) (frame : List ℕ) where
   abbrev buffers : ℕ

@@ -2,17 +2,18 @@
 use Prim.Native.Nat.{ℕ, _+_}
 use mathlib.Core.List.{List, [], _∷_, map, flatten}
 use Rattle.events.specs.declared.Event.{Event}
+use Rattle.capture.specs.Kinds.{kindOf}
 use Rattle.capture.specs.Capture.{Recorded}
 use Rattle.picture.specs.Picture.{Seen}
 use Rattle.calls.specs.State.{State}
 use Rattle.calls.specs.Calls.{Called, afterCalls}
 use Rattle.demands.specs.Wires.{answers}
 use Rattle.printed.specs.Text.{RecordAnswer, recordAnswer}
-use Rattle.playback.specs.Records.{recordEvents}
+use Rattle.playback.specs.Records.{asks}
 
 -- a record's calls, by the table of kinds
 abbrev pub callsOf : Recorded → List Event
-callsOf r = recordEvents (r .kind) (r .value)
+callsOf r = asks (kindOf (r .kind)) (r .value)
 
 -- the calls of records, one after another
 abbrev pub callsOfAll : List Recorded → List Event

@@ -20,11 +20,11 @@ use Rattle.calls.specs.State.{State}
 use Rattle.calls.specs.Calls.{called, refused, afterCalls}
 use Rattle.demands.specs.Wires.{numbersOf}
 use Rattle.capture.specs.declared.Answer.{Answer}
-use Rattle.capture.specs.declared.Answer.the-variants.{Record, Short, WrongMark, WrongKind, WrongValue, End}
+use Rattle.capture.specs.declared.Answer.the-variants.{Record, Refused, End}
 use Rattle.capture.specs.Record.{kindByte, valueByte, readFirst, number}
 use Rattle.capture.specs.Capture.{Recorded, contents}
 use Rattle.printed.specs.Text.{RecordAnswer, lines, longestLine}
-use Rattle.playback.specs.Replay.{endingAt, Replayed, Room, endless, bytes, replayed}
+use Rattle.playback.specs.Replay.{Replayed, halted, Room, endless, bytes, replayed}
 use Rattle.playback.specs.Transcript.{told, transcribed}
 use Rattle.playback.specs.Statements.{PartsReplayAsWhole, PartsTranscribeAsWhole, RoomTellsAll}
 use Rattle.boundary.specs.Report.{report, freshReplay}
@@ -95,10 +95,10 @@ pub record Allowed (kind value : ℕ) : Type 0 where
 
 -- what stands at the beginning of a capture, with its number: 6 to 9 in their order; 0 for the end, and for a record
 pub data RecordSays (c : List ℕ) : Answer → ℕ → Type 0 where
-  remain : 1 ≤ length c → length c ≤ 3 → RecordSays c Short 6
-  mark : 4 ≤ length c → (Marked c → ⊥) → RecordSays c WrongMark 7
-  kind : 4 ≤ length c → Marked c → 6 < kindByte c → RecordSays c WrongKind 8
-  value : 4 ≤ length c → Marked c → kindByte c ≤ 6 → (Allowed (kindByte c) (valueByte c) → ⊥) → RecordSays c WrongValue 9
+  remain : 1 ≤ length c → length c ≤ 3 → RecordSays c (Refused 6) 6
+  mark : 4 ≤ length c → (Marked c → ⊥) → RecordSays c (Refused 7) 7
+  kind : 4 ≤ length c → Marked c → 6 < kindByte c → RecordSays c (Refused 8) 8
+  value : 4 ≤ length c → Marked c → kindByte c ≤ 6 → (Allowed (kindByte c) (valueByte c) → ⊥) → RecordSays c (Refused 9) 9
   end : length c ≡ 0 → RecordSays c End 0
   good : 4 ≤ length c → Marked c → kindByte c ≤ 6 → Allowed (kindByte c) (valueByte c) → RecordSays c (Record (kindByte c) (valueByte c)) 0
 
@@ -140,7 +140,7 @@ pub data StopsAt (rs : List Recorded) (behind : ℕ) (room : Room) (place : ℕ)
 -- one has no effect
 pub record ReplayStops (e : Seen) (room : Room) (capture : List ℕ) (s : State) (frame : List ℕ) (place : ℕ) (r : Replayed) : Type 0 where
   -- refused as a call before anything is read: nothing changes, and nothing is answered
-  pub refused : (n : ℕ) → TableSays e frame false n → n ≢ 0 → r ≡ record { answers = []; ending = endingAt s frame place n }
+  pub refused : (n : ℕ) → TableSays e frame false n → n ≢ 0 → r ≡ halted s frame place n false
   -- else it stops at the first record that is refused, or behind the last; each record before that has answered
   pub counts : r .ending .place ≡ place + length (r .answers)
   pub stops :
@@ -179,7 +179,7 @@ TranscriptRefuses =
     (e : Seen) (capture : List ℕ) (s : State) (frame : List ℕ) (place : ℕ) (text : List ℕ) (n : ℕ)
     → TableSays e frame false n
     → n ≢ 0
-    → transcribed e capture s frame place text ≡ record { ending = endingAt s frame place n; reply = 0; count = 0; text = text; filled = 0 }
+    → transcribed e capture s frame place text ≡ record { ending = halted s frame place n false .ending; reply = 0; count = 0; text = text; filled = 0 }
 
 abbrev pub ExportedReplayRefuses : Type 0
 ExportedReplayRefuses =

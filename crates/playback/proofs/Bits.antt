@@ -12,7 +12,7 @@ use Rattle.capture.specs.Kinds.{eightBits}
 use Rattle.calls.specs.State.{State, Valid}
 use Rattle.events.specs.declared.Event.the-variants.{Bit}
 use Rattle.calls.specs.Calls.{Called, called}
-use Rattle.playback.specs.Records.{asks, plusCount, calledOn, calledInTurn}
+use Rattle.playback.specs.Records.{asks, calledOn, calledInTurn}
 use Rattle.calls.proofs.Kept.{called-count, called-length}
 use Rattle.playback.proofs.Refused.{in-turn-accepted, in-turn-refused}
 
@@ -20,6 +20,10 @@ use Rattle.playback.proofs.Refused.{in-turn-accepted, in-turn-refused}
 unfoldable pub lowest : ℕ → ℕ → List Bool
 lowest value zero = []
 lowest value (suc left) = bits.bit left value ∷ lowest value left
+
+-- with the count of a call before
+abbrev plusCount : ℕ → Called → Called
+plusCount n k = record { state = k .state; number = 0; reply = k .reply; count = n + k .count; frame = k .frame }
 
 module _ (e : Seen) (value : ℕ) where
   abbrev heardOn : ℕ → ℕ → State → List ℕ → Called
@@ -69,7 +73,11 @@ module _ (e : Seen) (value : ℕ) where
       few = omega (arith, g .few, ap (λ (x : Called). x .count) is, called-count e s frame (Bit (bits.bit left value)));
       valid = v;
       framed = ap (λ (x : Called). length (x .frame)) is ∙ called-length e s frame _ ∙ g .framed;
-      same = g .same ∙ rw (m, ← is, add-assoc);
+      same =
+          g .same
+          ∙ ap (λ (i : ℕ). plusCount count (heardOn i reply s frame)) m
+          ∙ ap (λ (x : Called). plusCount count (plusCount (x .count) (heardOn left (x .reply) (x .state) (x .frame)))) (sym is)
+          ∙ rw add-assoc;
     }
 
     pub ends :

@@ -19,19 +19,19 @@ use Rattle.calls.specs.Calls.{Called}
 use Rattle.capture.specs.declared.Answer.{Answer}
 use Rattle.capture.specs.declared.Answer.the-variants.{Record}
 use Rattle.capture.specs.Record.{number}
-use Rattle.capture.specs.Capture.{Contents, contents, readAt, passed, nextAt}
+use Rattle.capture.specs.Capture.{Contents, contents, readAt, passed}
 use Rattle.capture.proofs.Answers.{record-within}
 use Rattle.capture.proofs.Contents.{contents-at-record, contents-at-stop}
-use Rattle.printed.specs.Text.{RecordAnswer, line, lines, Put, Counts, longestLine, hasRoom}
+use Rattle.printed.specs.Text.{RecordAnswer, recordAnswer, line, lines, Put, Counts, longestLine, hasRoom}
 use Rattle.printed.proofs.Writing.{put-length, line-length, count-digits}
 use Rattle.playback.specs.Records.{recordCalled}
-use Rattle.playback.specs.Replay.{Replayed, halted, unroomed, answerFrom, afterAnswer, Room, roomOf, roomFor, roomBehind, recordLine, recordsReplayed, contentsReplayed, replayed, lastOr, unanswered, toldBy}
-use Rattle.playback.specs.Transcript.{Told, told}
-use Rattle.playback.specs.Statements.{afterAnswers}
-use Rattle.playback.proofs.Refused.{record-frame, record-length}
+use Rattle.playback.specs.Replay.{Replayed, halted, afterAnswers, Room, roomOf, roomFor, roomBehind, recordsReplayed, replayed}
+use Rattle.playback.specs.Transcript.{lastOr, toldBy, Told, told}
+use Rattle.playback.proofs.Refused.{answerFrom, record-frame, record-length}
 use Rattle.playback.proofs.Once.{record-count}
+use Rattle.playback.proofs.Parts.{contentsReplayed}
 
-one-more : (before : List RecordAnswer) (a : RecordAnswer) (r : Replayed) → afterAnswers before (afterAnswer a r) ≡ afterAnswers (before ++ (a ∷ [])) r
+one-more : (before : List RecordAnswer) (a : RecordAnswer) (r : Replayed) → afterAnswers before (afterAnswers (a ∷ []) r) ≡ afterAnswers (before ++ (a ∷ [])) r
 one-more before a r = ap (λ (l : List RecordAnswer). record { answers = l; ending = r .ending }) (sym (append-assoc before (a ∷ []) (r .answers)))
 
 last-of-more : (d : RecordAnswer) (l : List RecordAnswer) (a : RecordAnswer) → lastOr d (l ++ (a ∷ [])) ≡ a
@@ -86,21 +86,21 @@ module _ (e : Seen) (room : Room) (c : List ℕ) (s : State) (f : List ℕ) (n a
         roomFor room n ≡ true
         → k .number ≡ 0
         → onward
-        ≡ afterAnswer (answerFrom kind k) (contentsReplayed e (roomBehind room (recordLine n kind k)) (contents (drop (at + 4) c)) (k .state) (k .frame) (n + 1))
+        ≡ afterAnswers (answerFrom kind k ∷ []) (contentsReplayed e (roomBehind room (line n (answerFrom kind k))) (contents (drop (at + 4) c)) (k .state) (k .frame) (n + 1))
     unfolding recordsReplayed
     replayed-record space z =
         ap (λ (x : Contents). contentsReplayed e room x s f n) (contents-at-record c at h) ∙ rw (space, ← is, eq-eqb (k .number) 0 z)
 
-    replayed-refused : roomFor room n ≡ true → (k .number ≡ 0 → ⊥) → onward ≡ halted s f n (k .number)
+    replayed-refused : roomFor room n ≡ true → (k .number ≡ 0 → ⊥) → onward ≡ halted s f n (k .number) false
     unfolding recordsReplayed
     replayed-refused space z =
         ap (λ (x : Contents). contentsReplayed e room x s f n) (contents-at-record c at h) ∙ rw (space, ← is, ne-eqb (k .number) 0 z)
 
-  replayed-unroomed : {kind value : ℕ} → readAt c at ≡ Record kind value → roomFor room n ≡ false → onward ≡ unroomed s f n
+  replayed-unroomed : {kind value : ℕ} → readAt c at ≡ Record kind value → roomFor room n ≡ false → onward ≡ halted s f n 0 true
   unfolding recordsReplayed
   replayed-unroomed h space = ap (λ (x : Contents). contentsReplayed e room x s f n) (contents-at-record c at h) ∙ rw space
 
-  replayed-stop : passed (readAt c at) ≡ 0 → onward ≡ halted s f n (number (readAt c at))
+  replayed-stop : passed (readAt c at) ≡ 0 → onward ≡ halted s f n (number (readAt c at)) false
   unfolding recordsReplayed
   replayed-stop h = ap (λ (x : Contents). contentsReplayed e room x s f n) (contents-at-stop c at h)
 
@@ -122,7 +122,7 @@ module _ (e : Seen) (telling : Bool) (c : List ℕ) (s₀ : State) (f₀ : List 
         by false = refl
 
     -- refusals 1, 2, 3 before anything is read
-    pub turned-away : (m ≡ 0 → ⊥) → Leaves (record { ending = halted s₀ f₀ n₀ m .ending; reply = 0; count = 0; text = text₀; filled = 0 })
+    pub turned-away : (m ≡ 0 → ⊥) → Leaves (record { ending = halted s₀ f₀ n₀ m false .ending; reply = 0; count = 0; text = text₀; filled = 0 })
     unfolding replayed lastOr
     turned-away h = rw (← is, ne-eqb m 0 h, none-told)
 
@@ -133,8 +133,8 @@ module _ (e : Seen) (telling : Bool) (c : List ℕ) (s₀ : State) (f₀ : List 
     pub framed : length f ≡ length f₀
     pub before : List RecordAnswer
     pub numbered : n ≡ n₀ + length before
-    pub replies : lastOr unanswered before .reply ≡ reply
-    pub counts : lastOr unanswered before .count ≡ count
+    pub replies : lastOr (recordAnswer 0 0 0) before .reply ≡ reply
+    pub counts : lastOr (recordAnswer 0 0 0) before .count ≡ count
     pub stands : text ≡ sets text₀ 0 (toldBy telling (lines n₀ before))
     pub follows : filled ≡ length (toldBy telling (lines n₀ before))
     pub inside : filled ≤ length text
@@ -166,7 +166,7 @@ module _ (e : Seen) (telling : Bool) (c : List ℕ) (s₀ : State) (f₀ : List 
     pub long : {kind value : ℕ} → readAt c at ≡ Record kind value → at + 4 ≤ length c
     long h = omega (arith, record-within (drop at c) h, length-drop at c, g .within)
 
-    pub further : {kind value at' : ℕ} → readAt c at ≡ Record kind value → at' ≡ nextAt c at → at' ≡ at + 4
+    pub further : {kind value at' : ℕ} → readAt c at ≡ Record kind value → at' ≡ at + passed (readAt c at) → at' ≡ at + 4
     further h next = next ∙ ap (λ (a : Answer). at + passed a) h
 
     pub sized : length text ≡ length text₀
@@ -189,23 +189,23 @@ module _ (e : Seen) (telling : Bool) (c : List ℕ) (s₀ : State) (f₀ : List 
         (m : ℕ)
         → passed (readAt c at) ≡ 0
         → m ≡ number (readAt c at)
-        → Leaves (record { ending = halted s f n m .ending; reply = reply; count = count; text = text; filled = filled })
-    stops m h is = rw is (ended (halted s f n (number (readAt c at))) refl (g .same ∙ ap (afterAnswers (g .before)) (replayed-stop e _ c s f n at h)))
+        → Leaves (record { ending = halted s f n m false .ending; reply = reply; count = count; text = text; filled = filled })
+    stops m h is = rw is (ended (halted s f n (number (readAt c at)) false) refl (g .same ∙ ap (afterAnswers (g .before)) (replayed-stop e _ c s f n at h)))
 
     -- a record whose line might have no room
     pub is-full :
         {kind value : ℕ}
         → readAt c at ≡ Record kind value
         → roomFor (roomOf telling (length text - filled)) n ≡ false
-        → Leaves (record { ending = unroomed s f n .ending; reply = reply; count = count; text = text; filled = filled })
-    is-full h space = ended (unroomed s f n) refl (g .same ∙ ap (afterAnswers (g .before)) (replayed-unroomed e _ c s f n at h space))
+        → Leaves (record { ending = halted s f n 0 true .ending; reply = reply; count = count; text = text; filled = filled })
+    is-full h space = ended (halted s f n 0 true) refl (g .same ∙ ap (afterAnswers (g .before)) (replayed-unroomed e _ c s f n at h space))
 
     module _
         {kind value : ℕ} (k : Called)
         (h : readAt c at ≡ Record kind value)
         (is : k ≡ recordCalled e kind value s f)
         (space : roomFor (roomOf telling (length text - filled)) n ≡ true) where
-      pub room-for-line : filled + length (toldBy telling (recordLine n kind k)) ≤ length text
+      pub room-for-line : filled + length (toldBy telling (line n (answerFrom kind k))) ≤ length text
       room-for-line =
           omega (
             arith,
@@ -222,13 +222,13 @@ module _ (e : Seen) (telling : Bool) (c : List ℕ) (s₀ : State) (f₀ : List 
           {left : List ℕ} {next : ℕ}
           → k .number ≡ 0
           → Valid (k .state)
-          → Put text filled (toldBy telling (recordLine n kind k)) left next
+          → Put text filled (toldBy telling (line n (answerFrom kind k))) left next
           → Going (k .state) (k .frame) (n + 1) (at + 4) (k .reply) (k .count) left next
       turned {left} {next} z v p =
           let a = answerFrom kind k in
-          let more = last-of-more unanswered (g .before) a in
+          let more = last-of-more (recordAnswer 0 0 0) (g .before) a in
           let told = one-told telling n₀ (g .before) a ∙ ap (λ (i : ℕ). toldBy telling (lines n₀ (g .before)) ++ toldBy telling (line i a)) (sym (g .numbered)) in
-          let rest : length left - next ≡ length text - filled - length (toldBy telling (recordLine n kind k)) =
+          let rest : length left - next ≡ length text - filled - length (toldBy telling (line n (answerFrom kind k))) =
           omega (arith, put-length p, p .follows) in
           record {
             within = long h;
@@ -241,33 +241,33 @@ module _ (e : Seen) (telling : Bool) (c : List ℕ) (s₀ : State) (f₀ : List 
             counts = ap (λ (x : RecordAnswer). x .count) more;
             stands =
                 p .stands
-                ∙ ap (λ (i : ℕ). sets text i (toldBy telling (recordLine n kind k))) (g .follows ∙ sym (zero-add _))
-                ∙ ap (λ (l : List ℕ). sets l (0 + length (toldBy telling (lines n₀ (g .before)))) (toldBy telling (recordLine n kind k))) (g .stands)
-                ∙ sym (sets-append text₀ 0 (toldBy telling (lines n₀ (g .before))) (toldBy telling (recordLine n kind k)))
+                ∙ ap (λ (i : ℕ). sets text i (toldBy telling (line n (answerFrom kind k)))) (g .follows ∙ sym (zero-add _))
+                ∙ ap (λ (l : List ℕ). sets l (0 + length (toldBy telling (lines n₀ (g .before)))) (toldBy telling (line n (answerFrom kind k)))) (g .stands)
+                ∙ sym (sets-append text₀ 0 (toldBy telling (lines n₀ (g .before))) (toldBy telling (line n (answerFrom kind k))))
                 ∙ ap (sets text₀ 0) (sym told);
-            follows = p .follows ∙ omega (arith, g .follows, length-append (toldBy telling (lines n₀ (g .before))) (toldBy telling (recordLine n kind k))) ∙ ap length (sym told);
+            follows = p .follows ∙ omega (arith, g .follows, length-append (toldBy telling (lines n₀ (g .before))) (toldBy telling (line n (answerFrom kind k)))) ∙ ap length (sym told);
             inside = omega (arith, p .follows, put-length p, room-for-line);
             same =
                 g .same
                 ∙ ap (afterAnswers (g .before)) (replayed-record e _ c s f n at k h is space z)
                 ∙ one-more (g .before) a _
                 ∙ ap (λ (r : Room). afterAnswers (g .before ++ (a ∷ [])) (contentsReplayed e r (contents (drop (at + 4) c)) (k .state) (k .frame) (n + 1)))
-                (sym (ap (roomOf telling) rest ∙ room-behind telling (length text - filled) (recordLine n kind k)));
+                (sym (ap (roomOf telling) rest ∙ room-behind telling (length text - filled) (line n (answerFrom kind k))));
           }
 
       pub turns :
           {left : List ℕ} {next at' : ℕ}
-          → at' ≡ nextAt c at
+          → at' ≡ at + passed (readAt c at)
           → k .number ≡ 0
           → Valid (k .state)
-          → Put text filled (toldBy telling (recordLine n kind k)) left next
+          → Put text filled (toldBy telling (line n (answerFrom kind k))) left next
           → Going (k .state) (k .frame) (n + 1) at' (k .reply) (k .count) left next
       turns moved z v p = rw (further h moved) (turned z v p)
 
       -- a record that is refused has no effect
       pub refuses :
           (k .number ≡ 0 → ⊥)
-          → Leaves (record { ending = halted s (k .frame) n (k .number) .ending; reply = reply; count = count; text = text; filled = filled })
+          → Leaves (record { ending = halted s (k .frame) n (k .number) false .ending; reply = reply; count = count; text = text; filled = filled })
       refuses z =
           rw (record-frame e kind value s f k is z)
-          (ended (halted s f n (k .number)) refl (g .same ∙ ap (afterAnswers (g .before)) (replayed-refused e _ c s f n at k h is space z)))
+          (ended (halted s f n (k .number) false) refl (g .same ∙ ap (afterAnswers (g .before)) (replayed-refused e _ c s f n at k h is space z)))

@@ -15,16 +15,16 @@ use Rattle.picture.specs.Refusals.{refusalOf}
 use Rattle.calls.specs.State.{State}
 use Rattle.calls.specs.Calls.{Called}
 use Rattle.capture.specs.declared.Answer.{Answer}
-use Rattle.capture.specs.declared.Answer.the-variants.{Record, Short, WrongMark, WrongKind, WrongValue, End}
+use Rattle.capture.specs.declared.Answer.the-variants.{Record, Refused, End}
 use Rattle.capture.specs.Record.{number}
-use Rattle.capture.specs.Capture.{Recorded, Contents, contents, passed}
-use Rattle.capture.proofs.Contents.{joinedAt, contents-of-parts, contents-stop}
+use Rattle.capture.specs.Capture.{Recorded, Contents, contents}
+use Rattle.capture.proofs.Contents.{joinedAt, contents-of-parts, Stops, contents-stop}
 use Rattle.playback.specs.Records.{recordCalled}
 use Rattle.printed.specs.Text.{RecordAnswer, line, lines}
-use Rattle.playback.specs.Replay.{Ending, Replayed, Room, endless, bytes, roomFor, roomBehind, recordLine, ended, halted, unroomed, answerFrom, afterAnswer, unlessRefused, recordsReplayed, contentsReplayed, replayed}
+use Rattle.playback.specs.Replay.{Ending, Replayed, Room, endless, bytes, roomFor, roomBehind, ended, halted, afterAnswers, recordsReplayed, replayed}
 use Rattle.playback.specs.Transcript.{Told, told, transcribed}
-use Rattle.playback.specs.Statements.{afterAnswers, goneOn, PartsReplayAsWhole, Joins, TranscribesAsWhole, PartsTranscribeAsWhole}
-use Rattle.playback.proofs.Refused.{record-length}
+use Rattle.playback.specs.Statements.{goneOn, PartsReplayAsWhole, Joins, TranscribesAsWhole, PartsTranscribeAsWhole}
+use Rattle.playback.proofs.Refused.{answerFrom, record-length}
 
 -- the room behind no text, and behind one text and another
 behind-none : (room : Room) → roomBehind room [] ≡ room
@@ -34,6 +34,10 @@ behind-none (bytes rest) = ap bytes (omega arith)
 behind-both : (room : Room) (a b : List ℕ) → roomBehind room (a ++ b) ≡ roomBehind (roomBehind room a) b
 behind-both endless a b = refl
 behind-both (bytes rest) a b = ap bytes (omega (arith, length-append a b))
+
+-- what was read of a capture, replayed
+abbrev pub contentsReplayed : Seen → Room → Contents → State → List ℕ → ℕ → Replayed
+contentsReplayed e room c s f n = recordsReplayed e (number (c .stop)) room (c .records) s f n
 
 module _ (e : Seen) where
   -- a replay that came to its end goes on with more records
@@ -47,7 +51,7 @@ module _ (e : Seen) where
   -- one answer before all that
   answer-first :
       (room : Room) (n : ℕ) (a : RecordAnswer) (c : Contents) (r : Replayed)
-      → afterAnswer a (goneOver (roomBehind room (line n a)) (n + 1) c r) ≡ goneOver room n c (afterAnswer a r)
+      → afterAnswers (a ∷ []) (goneOver (roomBehind room (line n a)) (n + 1) c r) ≡ goneOver room n c (afterAnswers (a ∷ []) r)
   unfolding lines
   answer-first room n a c r = by (ended (r .ending))
     where
@@ -56,8 +60,8 @@ module _ (e : Seen) where
 
       by :
           (t : Bool)
-          → afterAnswer a (if t then afterAnswers (r .answers) (more (roomBehind (roomBehind room (line n a)) (lines (n + 1) (r .answers)))) else r)
-          ≡ (if t then afterAnswers (a ∷ r .answers) (more (roomBehind room (line n a ++ lines (n + 1) (r .answers)))) else afterAnswer a r)
+          → afterAnswers (a ∷ []) (if t then afterAnswers (r .answers) (more (roomBehind (roomBehind room (line n a)) (lines (n + 1) (r .answers)))) else r)
+          ≡ (if t then afterAnswers (a ∷ r .answers) (more (roomBehind room (line n a ++ lines (n + 1) (r .answers)))) else afterAnswers (a ∷ []) r)
       by true = ap (λ (left : Room). afterAnswers (a ∷ r .answers) (more left)) (sym (behind-both room (line n a) (lines (n + 1) (r .answers))))
       by false = refl
 
@@ -67,7 +71,7 @@ module _ (e : Seen) where
   unfolding recordsReplayed lines
   records-joined room [] c s f n = ap (λ (left : Room). contentsReplayed e left c s f n) (sym (behind-none room))
   records-joined room (r ∷ xs) c s f n =
-      by (roomFor room n) (eqb (k .number) 0) refl (records-joined (roomBehind room (recordLine n (r .kind) k)) xs c (k .state) (k .frame) (n + 1))
+      by (roomFor room n) (eqb (k .number) 0) refl (records-joined (roomBehind room (line n (answerFrom (r .kind) k))) xs c (k .state) (k .frame) (n + 1))
     where
       k : Called
       k = recordCalled e (r .kind) (r .value) s f
@@ -83,13 +87,13 @@ module _ (e : Seen) where
           → eqb (k .number) 0 ≡ t
           → recordsReplayed e (number (c .stop)) left (xs ++ c .records) (k .state) (k .frame) (n + 1)
           ≡ goneOver left (n + 1) c (recordsReplayed e 0 left xs (k .state) (k .frame) (n + 1))
-          → (if not q then unroomed s f n
-          else (if t then afterAnswer a (recordsReplayed e (number (c .stop)) left (xs ++ c .records) (k .state) (k .frame) (n + 1)) else halted s f n (k .number)))
+          → (if not q then halted s f n 0 true
+          else (if t then afterAnswers (a ∷ []) (recordsReplayed e (number (c .stop)) left (xs ++ c .records) (k .state) (k .frame) (n + 1)) else halted s f n (k .number) false))
           ≡ goneOver room n c
-          (if not q then unroomed s f n
-          else (if t then afterAnswer a (recordsReplayed e 0 left xs (k .state) (k .frame) (n + 1)) else halted s f n (k .number)))
+          (if not q then halted s f n 0 true
+          else (if t then afterAnswers (a ∷ []) (recordsReplayed e 0 left xs (k .state) (k .frame) (n + 1)) else halted s f n (k .number) false))
       by false t z rest = refl
-      by true true z rest = ap (afterAnswer a) rest ∙ answer-first room n a c (recordsReplayed e 0 left xs (k .state) (k .frame) (n + 1))
+      by true true z rest = ap (afterAnswers (a ∷ [])) rest ∙ answer-first room n a c (recordsReplayed e 0 left xs (k .state) (k .frame) (n + 1))
       by true false z rest = rw z
 
   -- a replay of what ends in a refusal did not come to its end
@@ -106,14 +110,11 @@ module _ (e : Seen) where
 
   replayed-by-stop :
       (room : Room) (xs : List Recorded) (a : Answer) (c : Contents) (s : State) (f : List ℕ) (n : ℕ)
-      → passed a ≡ 0
+      → Stops a
       → contentsReplayed e room (joinedAt a (record { records = xs; stop = a }) c) s f n ≡ goneOver room n c (recordsReplayed e (number a) room xs s f n)
-  replayed-by-stop room xs (Record kind value) c s f n h = absurd (omega arith)
+  replayed-by-stop room xs (Record kind value) c s f n h = absurd h
   replayed-by-stop room xs End c s f n h = records-joined room xs c s f n
-  replayed-by-stop room xs Short c s f n h = rw (stays-refused 6 refl room xs s f n)
-  replayed-by-stop room xs WrongMark c s f n h = rw (stays-refused 7 refl room xs s f n)
-  replayed-by-stop room xs WrongKind c s f n h = rw (stays-refused 8 refl room xs s f n)
-  replayed-by-stop room xs WrongValue c s f n h = rw (stays-refused 9 refl room xs s f n)
+  replayed-by-stop room xs (Refused m) c s f n h = rw (stays-refused m h room xs s f n)
 
   replayed-length :
       (last : ℕ) (room : Room) (xs : List Recorded) (s : State) (f : List ℕ) (n : ℕ)
@@ -148,8 +149,8 @@ parts-replay-as-whole e room part more s f n h = by (eqb (refusalOf (length f) (
     by :
         (t : Bool)
         → eqb m 0 ≡ t
-        → (if t then contentsReplayed e room (contents (part ++ more)) s f n else halted s f n m)
-        ≡ goneOn e room n more (if t then contentsReplayed e room x s f n else halted s f n m)
+        → (if t then contentsReplayed e room (contents (part ++ more)) s f n else halted s f n m false)
+        ≡ goneOn e room n more (if t then contentsReplayed e room x s f n else halted s f n m false)
     by true q =
         ap (λ (c : Contents). contentsReplayed e room c s f n) (contents-of-parts part more h)
         ∙ replayed-by-stop e room (x .records) (x .stop) (contents more) s f n (contents-stop part)

@@ -15,7 +15,8 @@ use Rattle.capture.specs.Kinds.{Kind, instructionWrite, dataWrite, statusRead, 
 use Rattle.calls.specs.State.{State}
 use Rattle.calls.specs.Calls.{Called, refused, called}
 use Rattle.calls.proofs.Kept.{Unmoved, called-unmoved, called-length}
-use Rattle.playback.specs.Records.{asks, recordEvents, calledOn, firstNumber, calledInTurn, recordCalled}
+use Rattle.printed.specs.Text.{RecordAnswer, recordAnswer}
+use Rattle.playback.specs.Records.{asks, calledOn, firstNumber, calledInTurn, recordCalled}
 
 -- a record asks for one event, or for the bits of its value
 pub one-or-bits :
@@ -35,7 +36,7 @@ one-or-bits P reset value one bits = one _
 pub called-on-accepted : (e : Seen) (reply : ℕ) (s : State) (frame : List ℕ) (events : List Event) → calledOn e reply s frame events .number ≡ 0
 unfolding calledOn
 called-on-accepted e reply s frame [] = refl
-called-on-accepted e reply s frame (event ∷ events) = called-on-accepted e _ _ _ events
+called-on-accepted e reply s frame (event ∷ events) = refl
 
 called-on-length :
     (e : Seen) (reply : ℕ) (s : State) (frame : List ℕ) (events : List Event) → length (calledOn e reply s frame events .frame) ≡ length frame
@@ -76,6 +77,10 @@ module _ (e : Seen) (s : State) (frame : List ℕ) where
       ∙ rw add-zero (ap (λ (n : ℕ). record { state = k .state; number = n; reply = k .reply; count = k .count; frame = k .frame }) (sym z)))
       (λ t. in-turn-refused event [] (eqb-false (k .number) 0 t))
 
+-- what an accepted record answers
+abbrev pub answerFrom : ℕ → Called → RecordAnswer
+answerFrom kind k = recordAnswer kind (k .reply) (k .count)
+
 module _ (e : Seen) (kind value : ℕ) (s : State) (frame : List ℕ) where
   -- earlier records stand, the refused one has no effect
   pub record-unmoved : Unmoved s frame (recordCalled e kind value s frame)
@@ -92,7 +97,7 @@ module _ (e : Seen) (kind value : ℕ) (s : State) (frame : List ℕ) where
 
   -- a record is its one event, or its eight bits
   module _ (k : Called) where
-    pub record-of-one : (event : Event) → k ≡ called e s frame event → event ∷ [] ≡ recordEvents kind value → k ≡ recordCalled e kind value s frame
+    pub record-of-one : (event : Event) → k ≡ called e s frame event → event ∷ [] ≡ asks (kindOf kind) value → k ≡ recordCalled e kind value s frame
     unfolding recordCalled
     record-of-one event is asked = is ∙ sym (one-in-turn e s frame event) ∙ ap (calledInTurn e s frame) asked
 

@@ -17,8 +17,9 @@ use Rattle.capture.specs.Capture.{Recorded, contents}
 use Rattle.printed.specs.Text.{RecordAnswer, line, longestLine, hasRoom}
 use Rattle.printed.proofs.Writing.{decimal-length, line-length, count-digits}
 use Rattle.playback.specs.Records.{recordCalled}
-use Rattle.playback.specs.Replay.{Replayed, halted, answerFrom, unlessRefused, endless, bytes, recordsReplayed, replayed}
+use Rattle.playback.specs.Replay.{Replayed, halted, afterAnswers, endless, bytes, recordsReplayed, replayed}
 use Rattle.playback.specs.Statements.{RoomTellsAll}
+use Rattle.playback.proofs.Refused.{answerFrom}
 use Rattle.playback.proofs.Once.{record-count}
 
 has-room : (rest n : ℕ) → 29 ≤ rest → n < 2 ^ 64 - 1 → hasRoom rest n ≡ true
@@ -35,7 +36,7 @@ module _ (e : Seen) (last : ℕ) where
   roomy rest [] s f n h l = refl
   roomy rest (r ∷ rs) s f n h l =
       rw (has-room rest n (omega arith) (omega arith))
-      (ap (unlessRefused s f n (r .kind) k) (roomy (rest - length (line n a)) rs (k .state) (k .frame) (n + 1) (omega (arith, short)) (omega arith)))
+      (ap (λ (x : Replayed). if eqb (k .number) 0 then afterAnswers (a ∷ []) x else halted s f n (k .number) false) (roomy (rest - length (line n a)) rs (k .state) (k .frame) (n + 1) (omega (arith, short)) (omega arith)))
     where
       k : Called
       k = recordCalled e (r .kind) (r .value) s f
@@ -49,5 +50,5 @@ module _ (e : Seen) (last : ℕ) where
 pub room-tells-all : RoomTellsAll
 unfolding replayed
 room-tells-all e room capture s f n h l =
-    ap (λ (r : Replayed). if eqb (refusalOf (length f) (length (e .half)) (length (e .full))) 0 then r else halted s f n (refusalOf (length f) (length (e .half)) (length (e .full))))
+    ap (λ (r : Replayed). if eqb (refusalOf (length f) (length (e .half)) (length (e .full))) 0 then r else halted s f n (refusalOf (length f) (length (e .half)) (length (e .full))) false)
     (roomy e (number (contents capture .stop)) room (contents capture .records) s f n h l)

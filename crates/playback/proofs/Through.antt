@@ -13,13 +13,15 @@ use Rattle.picture.specs.Refusals.{refusalOf}
 use Rattle.calls.specs.State.{State}
 use Rattle.calls.specs.Calls.{Called}
 use Rattle.capture.specs.declared.Answer.{Answer}
-use Rattle.capture.specs.declared.Answer.the-variants.{Record, Short, WrongMark, WrongKind, WrongValue, End}
+use Rattle.capture.specs.declared.Answer.the-variants.{Record, Refused, End}
 use Rattle.capture.specs.Record.{readFirst, number}
 use Rattle.capture.specs.Capture.{Recorded, Contents, readOn, contents}
-use Rattle.capture.proofs.Answers.{four-are-no-end}
+use Rattle.capture.proofs.Answers.{four-are-no-end, Numbered, read-numbered}
 use Rattle.playback.specs.Records.{recordCalled}
-use Rattle.playback.specs.Replay.{Replayed, Room, bytes, roomFor, roomBehind, recordLine, recordsReplayed, replayed}
+use Rattle.playback.specs.Replay.{Replayed, Room, bytes, roomFor, roomBehind, recordsReplayed, replayed}
+use Rattle.printed.specs.Text.{line}
 use Rattle.playback.specs.Transcript.{Told, transcribed}
+use Rattle.playback.proofs.Refused.{answerFrom}
 
 -- it came to its end
 abbrev Ended : ℕ → ℕ → ℕ → Replayed → Type 0
@@ -34,18 +36,15 @@ module _ (e : Seen) (last : ℕ) where
       either-told (Ended last n (length (r ∷ rs))) (not (roomFor room n))
       (λ t z q. absurd (true≢false q))
       (λ t. either-told (Ended last n (length (r ∷ rs))) (eqb (k .number) 0)
-      (λ a z q. let on = all-replayed (roomBehind room (recordLine n (r .kind) k)) rs (k .state) (k .frame) (n + 1) z q in (on .0, omega (arith, on .1)))
+      (λ a z q. let on = all-replayed (roomBehind room (line n (answerFrom (r .kind) k))) rs (k .state) (k .frame) (n + 1) z q in (on .0, omega (arith, on .1)))
       (λ a z q. absurd (eqb-false (k .number) 0 a z)))
 
 -- what stops the reading with number 0 is the end, four bytes after each record
-goes-on-whole : (a : Answer) (on : Contents) (rest : ℕ) → (a ≡ End → ⊥) → (number (on .stop) ≡ 0 → rest ≡ 4 * length (on .records))
+goes-on-whole : (a : Answer) (on : Contents) (rest : ℕ) → Numbered a → (a ≡ End → ⊥) → (number (on .stop) ≡ 0 → rest ≡ 4 * length (on .records))
     → number (readOn a on .stop) ≡ 0 → 4 + rest ≡ 4 * length (readOn a on .records)
-goes-on-whole (Record kind value) on rest never h z = omega (arith, h z)
-goes-on-whole Short on rest never h z = absurd (omega arith)
-goes-on-whole WrongMark on rest never h z = absurd (omega arith)
-goes-on-whole WrongKind on rest never h z = absurd (omega arith)
-goes-on-whole WrongValue on rest never h z = absurd (omega arith)
-goes-on-whole End on rest never h z = absurd (never refl)
+goes-on-whole (Record kind value) on rest n never h z = omega (arith, h z)
+goes-on-whole (Refused m) on rest n never h z = absurd (eqb-false m 0 n z)
+goes-on-whole End on rest n never h z = absurd (never refl)
 
 all-read : (c : List ℕ) → number (contents c .stop) ≡ 0 → length c ≡ 4 * length (contents c .records)
 unfolding contents readFirst
@@ -54,7 +53,7 @@ all-read (a ∷ []) z = absurd (omega arith)
 all-read (a ∷ b ∷ []) z = absurd (omega arith)
 all-read (a ∷ b ∷ d ∷ []) z = absurd (omega arith)
 all-read (a ∷ b ∷ d ∷ e ∷ c) z =
-    omega (arith, goes-on-whole (readFirst (a ∷ b ∷ d ∷ e ∷ c)) (contents c) (length c) (four-are-no-end a b d e c) (all-read c) z)
+    omega (arith, goes-on-whole (readFirst (a ∷ b ∷ d ∷ e ∷ c)) (contents c) (length c) (read-numbered (a ∷ b ∷ d ∷ e ∷ c)) (four-are-no-end a b d e c) (all-read c) z)
 
 pub went-through :
     (e : Seen) (room : Room) (c : List ℕ) (s : State) (f : List ℕ) (n : ℕ)

@@ -22,20 +22,13 @@ asks eightBits value = map Bit (highestFirst value)
 asks chipSelectLow value = SelectLow ∷ []
 asks reset value = Reset (record { parallel = eqb value 1 }) ∷ []
 
--- a record's events
-abbrev pub recordEvents : ℕ → ℕ → List Event
-recordEvents kind value = asks (kindOf kind) value
-
--- with the count of a call before
-abbrev pub plusCount : ℕ → Called → Called
-plusCount n k = record { state = k .state; number = k .number; reply = k .reply; count = n + k .count; frame = k .frame }
-
 -- called in turn, behind a call that replied so: number 0, the last reply, the sum of the counts
 unfoldable pub calledOn : Seen → ℕ → State → List ℕ → List Event → Called
 calledOn e reply s frame [] = record { state = s; number = 0; reply = reply; count = 0; frame = frame }
 calledOn e reply s frame (event ∷ events) =
     let k : Called = called e s frame event in
-    plusCount (k .count) (calledOn e (k .reply) (k .state) (k .frame) events)
+    let on : Called = calledOn e (k .reply) (k .state) (k .frame) events in
+    record { state = on .state; number = 0; reply = on .reply; count = k .count + on .count; frame = on .frame }
 
 abbrev pub firstNumber : Seen → State → List ℕ → List Event → ℕ
 firstNumber e s frame [] = 0
@@ -47,6 +40,6 @@ calledInTurn e s frame events =
     if eqb (firstNumber e s frame events) 0 then calledOn e 0 s frame events
     else refused s frame (firstNumber e s frame events)
 
--- a record
+-- a record: its events in turn
 unfoldable pub recordCalled : Seen → ℕ → ℕ → State → List ℕ → Called
-recordCalled e kind value s frame = calledInTurn e s frame (recordEvents kind value)
+recordCalled e kind value s frame = calledInTurn e s frame (asks (kindOf kind) value)

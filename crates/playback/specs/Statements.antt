@@ -13,8 +13,8 @@ use Rattle.calls.specs.Calls.{Called, called}
 use Rattle.capture.specs.Capture.{contents}
 use Rattle.capture.specs.Kinds.{eightBits}
 use Rattle.playback.specs.Records.{asks, calledInTurn}
-use Rattle.printed.specs.Text.{RecordAnswer, lines}
-use Rattle.playback.specs.Replay.{Replayed, Room, endless, bytes, roomBehind, ended, replayed}
+use Rattle.printed.specs.Text.{lines}
+use Rattle.playback.specs.Replay.{Replayed, afterAnswers, Room, endless, bytes, roomBehind, ended, replayed}
 use Rattle.playback.specs.Transcript.{Told, transcribed}
 
 -- the counts of calls in turn
@@ -36,10 +36,6 @@ abbrev pub EightBitsCountOnce : Type 0
 EightBitsCountOnce =
     (e : Seen) (value : ℕ) (s : State) (frame : List ℕ)
     → OneCounts (countsInTurn e s frame (asks eightBits value)) (calledInTurn e s frame (asks eightBits value) .count)
-
--- answers, then those of a replay
-abbrev pub afterAnswers : List RecordAnswer → Replayed → Replayed
-afterAnswers before r = record { answers = before ++ r .answers; ending = r .ending }
 
 -- a replay that came to the end of its capture goes on with more of it, from where it stands, with the room that its lines left; one that
 -- was refused, or had no room, stays

@@ -9,8 +9,8 @@ ghost use mathlib.Core.Path.{_≡_};
 ghost use Rattle.picture.specs.Picture.{seen};
 ghost use Rattle.calls.specs.State.{Valid};
 ghost use Rattle.panel.specs.Handed.{stateOf, handed};
-ghost use Rattle.playback.specs.Records.{asks, recordEvents, calledInTurn, recordCalled};
-ghost use Rattle.capture.specs.Kinds.{eightBits};
+ghost use Rattle.playback.specs.Records.{asks, calledInTurn, recordCalled};
+ghost use Rattle.capture.specs.Kinds.{kindOf, eightBits};
 
 // Eight bits of the serial link, highest first. On the other link the first is refused, and none is heard.
 fn eight_bits(
@@ -51,7 +51,7 @@ fn eight_bits(
 // The one event of a record of any other kind than 4.
 fn event_of(kind: u8, value: u8) -> Event
     requires { ⌜ (kind ≡ 4 → ⊥) ⌝ }
-    ensures { λ r. ⌜ r ∷ [] ≡ recordEvents kind value ⌝ }
+    ensures { λ r. ⌜ r ∷ [] ≡ asks (kindOf kind) value ⌝ }
 {
     match kind {
         0 => Event::Transfer(Transfer::Instruct(value)),

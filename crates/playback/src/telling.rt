@@ -5,7 +5,8 @@ ghost use mathlib.Core.Path.{_≡_};
 ghost use Prim.Native.Nat.{_+_, _≤_};
 ghost use lib.ListN.{length};
 ghost use Rattle.printed.specs.Text.{recordAnswer, line, Put};
-ghost use Rattle.playback.specs.Replay.{roomOf, roomFor, toldBy};
+ghost use Rattle.playback.specs.Transcript.{toldBy};
+ghost use Rattle.playback.specs.Replay.{roomOf, roomFor};
 
 // Whether one more record may be carried out: always where no lines are told.
 pub(crate) fn room_for(telling: bool, rest: usize, place: usize) -> bool

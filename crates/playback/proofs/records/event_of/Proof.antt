@@ -1,6 +1,7 @@
 -- By the kind.
-use borrow.Author.Tests.{ne-eqb}
+use native.Mathlib.Omega.{arith}
 use Rattle.capture.specs.Kinds.{kindOf}
+use Rattle.capture.proofs.ByKind.{above-five}
 use Rattle.playback.proofs.records.event_of.Statement.{statement}
 use Rattle.playback.proofs.records.event_of.Tie as tie
 
@@ -14,4 +15,5 @@ event-of-spec =
     (λ c. rw (c .match .keys3))
     (λ c. rw (c .match .keys4))
     (λ c. rw (c .match .keys5))
-    (λ c. rw (ne-eqb _ 0 (c .match .rest .0 .0 .0 .0 .1), ne-eqb _ 1 (c .match .rest .0 .0 .0 .1), ne-eqb _ 2 (c .match .rest .0 .0 .1), ne-eqb _ 3 (c .match .rest .0 .1), ne-eqb _ 4 (c .before .pre), ne-eqb _ 5 (c .match .rest .1))))
+    (λ c. let others = c .match .rest in
+    rw (above-five (c .before .args .kind) (omega (arith, others .0 .0 .0 .0 .1, others .0 .0 .0 .1, others .0 .0 .1, others .0 .1, c .before .pre, others .1)))))
