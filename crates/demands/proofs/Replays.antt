@@ -27,11 +27,12 @@ use Rattle.demands.proofs.Sequences.{after-append, numbers-append, zero
 use Rattle.capture.specs.Kinds.{kindOf}
 use Rattle.capture.specs.Record.{number}
 use Rattle.capture.specs.Capture.{Recorded, contents}
-use Rattle.playback.specs.Records.{calledOn, firstNumber, calledInTurn, recordCalled}
+use Rattle.records.specs.Records.{calledOn, firstNumber, calledInTurn, recordCalled}
 use Rattle.playback.specs.Replay.{Replayed, halted, afterAnswers, Room, endless, bytes, roomFor, roomBehind, recordsReplayed, replayed}
 use Rattle.playback.specs.Transcript.{lastOr, transcribed}
 use Rattle.boundary.specs.Report.{freshReplay}
-use Rattle.playback.proofs.Refused.{answerFrom, one-or-bits, called-on-accepted, record-length}
+use Rattle.playback.proofs.Answers.{answerFrom}
+use Rattle.records.proofs.Refused.{one-or-bits, called-on-accepted, record-length}
 use Rattle.playback.proofs.Parts.{contentsReplayed, replayed-place}
 use Rattle.demands.specs.Captures.{callsOf, callsOfAll, lastReply, sumOfCounts, answerOf, answersOf}
 use Rattle.demands.specs.Demand1.{TableSays, isSerial, ofOtherLink, firstOfOtherLink, NoRoom, lineTooLong, uncounted, StopsAt, behindAll, atRecord, noRoom, ReplayStops, TranscriptRefuses, TranscriptTells, ExportedReplayRefuses}

@@ -9,7 +9,7 @@ use Rattle.calls.specs.State.{State}
 use Rattle.calls.specs.Calls.{Called, afterCalls}
 use Rattle.demands.specs.Wires.{answers}
 use Rattle.printed.specs.Text.{RecordAnswer, recordAnswer}
-use Rattle.playback.specs.Records.{asks}
+use Rattle.records.specs.Records.{asks}
 
 -- a record's calls, by the table of kinds
 abbrev pub callsOf : Recorded → List Event

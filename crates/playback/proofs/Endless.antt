@@ -11,7 +11,7 @@ use Rattle.picture.specs.Refusals.{refusalOf}
 use Rattle.calls.specs.State.{State}
 use Rattle.capture.specs.Record.{number}
 use Rattle.capture.specs.Capture.{Recorded, contents}
-use Rattle.playback.specs.Records.{recordCalled}
+use Rattle.records.specs.Records.{recordCalled}
 use Rattle.playback.specs.Replay.{Replayed, endless, recordsReplayed, replayed}
 
 module _ (e : Seen) where

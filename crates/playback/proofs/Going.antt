@@ -24,11 +24,12 @@ use Rattle.capture.proofs.Answers.{record-within}
 use Rattle.capture.proofs.Contents.{contents-at-record, contents-at-stop}
 use Rattle.printed.specs.Text.{RecordAnswer, recordAnswer, line, lines, Put, Counts, longestLine, hasRoom}
 use Rattle.printed.proofs.Writing.{put-length, line-length, count-digits}
-use Rattle.playback.specs.Records.{recordCalled}
+use Rattle.records.specs.Records.{recordCalled}
 use Rattle.playback.specs.Replay.{Replayed, halted, afterAnswers, Room, roomOf, roomFor, roomBehind, recordsReplayed, replayed}
 use Rattle.playback.specs.Transcript.{lastOr, toldBy, Told, told}
-use Rattle.playback.proofs.Refused.{answerFrom, record-frame, record-length}
-use Rattle.playback.proofs.Once.{record-count}
+use Rattle.playback.proofs.Answers.{answerFrom}
+use Rattle.records.proofs.Refused.{record-frame, record-length}
+use Rattle.records.proofs.Once.{record-count}
 use Rattle.playback.proofs.Parts.{contentsReplayed}
 
 one-more : (before : List RecordAnswer) (a : RecordAnswer) (r : Replayed) → afterAnswers before (afterAnswers (a ∷ []) r) ≡ afterAnswers (before ++ (a ∷ [])) r

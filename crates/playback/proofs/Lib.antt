@@ -1,6 +1,4 @@
-pub mod Refused
-pub mod Once
-pub mod Bits
+pub mod Answers
 pub mod Going
 pub mod Endless
 pub mod Parts

@@ -19,12 +19,13 @@ use Rattle.capture.specs.declared.Answer.the-variants.{Record, Refused, End}
 use Rattle.capture.specs.Record.{number}
 use Rattle.capture.specs.Capture.{Recorded, Contents, contents}
 use Rattle.capture.proofs.Contents.{joinedAt, contents-of-parts, Stops, contents-stop}
-use Rattle.playback.specs.Records.{recordCalled}
+use Rattle.records.specs.Records.{recordCalled}
 use Rattle.printed.specs.Text.{RecordAnswer, line, lines}
 use Rattle.playback.specs.Replay.{Ending, Replayed, Room, endless, bytes, roomFor, roomBehind, ended, halted, afterAnswers, recordsReplayed, replayed}
 use Rattle.playback.specs.Transcript.{Told, told, transcribed}
 use Rattle.playback.specs.Statements.{goneOn, PartsReplayAsWhole, Joins, TranscribesAsWhole, PartsTranscribeAsWhole}
-use Rattle.playback.proofs.Refused.{answerFrom, record-length}
+use Rattle.playback.proofs.Answers.{answerFrom}
+use Rattle.records.proofs.Refused.{record-length}
 
 -- the room behind no text, and behind one text and another
 behind-none : (room : Room) → roomBehind room [] ≡ room

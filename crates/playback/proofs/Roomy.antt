@@ -16,11 +16,11 @@ use Rattle.capture.specs.Record.{number}
 use Rattle.capture.specs.Capture.{Recorded, contents}
 use Rattle.printed.specs.Text.{RecordAnswer, line, longestLine, hasRoom}
 use Rattle.printed.proofs.Writing.{decimal-length, line-length, count-digits}
-use Rattle.playback.specs.Records.{recordCalled}
+use Rattle.records.specs.Records.{recordCalled}
 use Rattle.playback.specs.Replay.{Replayed, halted, afterAnswers, endless, bytes, recordsReplayed, replayed}
 use Rattle.playback.specs.Statements.{RoomTellsAll}
-use Rattle.playback.proofs.Refused.{answerFrom}
-use Rattle.playback.proofs.Once.{record-count}
+use Rattle.playback.proofs.Answers.{answerFrom}
+use Rattle.records.proofs.Once.{record-count}
 
 has-room : (rest n : ℕ) → 29 ≤ rest → n < 2 ^ 64 - 1 → hasRoom rest n ≡ true
 unfolding hasRoom

@@ -17,11 +17,11 @@ use Rattle.capture.specs.declared.Answer.the-variants.{Record, Refused, End}
 use Rattle.capture.specs.Record.{readFirst, number}
 use Rattle.capture.specs.Capture.{Recorded, Contents, readOn, contents}
 use Rattle.capture.proofs.Answers.{four-are-no-end, Numbered, read-numbered}
-use Rattle.playback.specs.Records.{recordCalled}
+use Rattle.records.specs.Records.{recordCalled}
 use Rattle.playback.specs.Replay.{Replayed, Room, bytes, roomFor, roomBehind, recordsReplayed, replayed}
 use Rattle.printed.specs.Text.{line}
 use Rattle.playback.specs.Transcript.{Told, transcribed}
-use Rattle.playback.proofs.Refused.{answerFrom}
+use Rattle.playback.proofs.Answers.{answerFrom}
 
 -- it came to its end
 abbrev Ended : ℕ → ℕ → ℕ → Replayed → Type 0

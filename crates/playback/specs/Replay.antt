@@ -12,7 +12,7 @@ use Rattle.calls.specs.Calls.{Called}
 use Rattle.capture.specs.Record.{number}
 use Rattle.capture.specs.Capture.{Recorded, contents}
 use Rattle.printed.specs.Text.{RecordAnswer, recordAnswer, line, hasRoom}
-use Rattle.playback.specs.Records.{recordCalled}
+use Rattle.records.specs.Records.{recordCalled}
 
 -- where a replay stands when it stops: the state, the frame, the records accepted, and the refusal number, 0 at the end; or else
 -- that the record at this place was not carried out, as its line might have had no room

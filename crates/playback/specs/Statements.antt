@@ -1,41 +1,17 @@
--- Document 01, "Captures": what holds of records, replays and their lines.
--- Each statement is proved in proofs/, under its own name in small letters (`EightBitsCountOnce` as `eight-bits-count-once`).
+-- Document 01, "Captures": what holds of replays and their lines.
+-- Each statement is proved in proofs/, under its own name in small letters (`RoomTellsAll` as `room-tells-all`).
 use Prim.Native.Nat.{ℕ, _+_, _*_, _%_, _^_, _≤_, _<_}
 use mathlib.Core.Bool.{true, false}
-use mathlib.Core.List.{List, [], _∷_, _++_}
+use mathlib.Core.List.{List, _++_}
 use mathlib.Core.Path.{_≡_}
-use lib.ListN.{length, replicate, take, drop}
+use lib.ListN.{length, take, drop}
 use Rattle.base.specs.Choice.{if_then_else_}
 use Rattle.picture.specs.Picture.{Seen}
 use Rattle.calls.specs.State.{State}
-use Rattle.events.specs.declared.Event.{Event}
-use Rattle.calls.specs.Calls.{Called, called}
 use Rattle.capture.specs.Capture.{contents}
-use Rattle.capture.specs.Kinds.{eightBits}
-use Rattle.playback.specs.Records.{asks, calledInTurn}
 use Rattle.printed.specs.Text.{lines}
 use Rattle.playback.specs.Replay.{Replayed, afterAnswers, Room, endless, bytes, roomBehind, ended, replayed}
 use Rattle.playback.specs.Transcript.{Told, transcribed}
-
--- the counts of calls in turn
-unfoldable pub countsInTurn : Seen → State → List ℕ → List Event → List ℕ
-countsInTurn e s frame [] = []
-countsInTurn e s frame (event ∷ events) =
-    let k : Called = called e s frame event in
-    k .count ∷ countsInTurn e (k .state) (k .frame) events
-
--- of some counts all are 0 but this one, which is at most 1,024
-pub record OneCounts (counts : List ℕ) (count : ℕ) : Type 0 where
-  pub before : ℕ
-  pub after : ℕ
-  pub alone : counts ≡ replicate before 0 ++ (count ∷ replicate after 0)
-  pub most : count ≤ 1024
-
--- 1. Kind 4's eight bits count once: at most one of them completes a byte, and only that one names bytes.
-abbrev pub EightBitsCountOnce : Type 0
-EightBitsCountOnce =
-    (e : Seen) (value : ℕ) (s : State) (frame : List ℕ)
-    → OneCounts (countsInTurn e s frame (asks eightBits value)) (calledInTurn e s frame (asks eightBits value) .count)
 
 -- a replay that came to the end of its capture goes on with more of it, from where it stands, with the room that its lines left; one that
 -- was refused, or had no room, stays
@@ -46,7 +22,7 @@ goneOn e room place more r =
     (replayed e (roomBehind room (lines place (r .answers))) more (r .ending .state) (r .ending .frame) (r .ending .place))
     else r
 
--- 2. A capture may be replayed in parts, where the earlier part has whole records.
+-- 1. A capture may be replayed in parts, where the earlier part has whole records.
 abbrev pub PartsReplayAsWhole : Type 0
 PartsReplayAsWhole =
     (e : Seen) (room : Room) (part more : List ℕ) (s : State) (frame : List ℕ) (place : ℕ)
@@ -59,7 +35,7 @@ pub record Joins (first second whole : Told) : Type 0 where
   pub text : whole .text ≡ take (first .filled) (first .text) ++ second .text
   pub filled : whole .filled ≡ first .filled + second .filled
 
--- 3. And so may it be transcribed: a transcript that came to its end goes on with more, one that stopped is the whole.
+-- 2. And so may it be transcribed: a transcript that came to its end goes on with more, one that stopped is the whole.
 pub record TranscribesAsWhole (e : Seen) (more : List ℕ) (first whole : Told) : Type 0 where
   pub goes :
       ended (first .ending) ≡ true
@@ -72,7 +48,7 @@ PartsTranscribeAsWhole =
     → length part % 4 ≡ 0
     → TranscribesAsWhole e more (transcribed e part s frame place text) (transcribed e (part ++ more) s frame place text)
 
--- 4. With 29 bytes for each record, the longest line that there is, all of the replay is told.
+-- 3. With 29 bytes for each record, the longest line that there is, all of the replay is told.
 abbrev pub RoomTellsAll : Type 0
 RoomTellsAll =
     (e : Seen) (room : ℕ) (capture : List ℕ) (s : State) (frame : List ℕ) (place : ℕ)

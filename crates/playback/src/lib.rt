@@ -1,7 +1,6 @@
 // The replay of a capture on a panel with a lent frame and fonts, until the first refusal.
 use panel::Panel;
 
-mod records;
 mod replaying;
 mod telling;
 

@@ -1,11 +1,11 @@
 // The replay of a capture, with or without its lines: one loop.
 use crate::Stop;
-use crate::records::obey;
 use crate::telling::room_for;
 use crate::telling::tell;
 use capture::Answer;
 use panel::Panel;
 use picture::refusals::refusal;
+use records::obey;
 ghost use mathlib.Core.Bool.{false};
 ghost use mathlib.Core.List.{[]};
 ghost use mathlib.Core.Path.{_≡_};

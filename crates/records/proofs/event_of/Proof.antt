@@ -2,8 +2,8 @@
 use native.Mathlib.Omega.{arith}
 use Rattle.capture.specs.Kinds.{kindOf}
 use Rattle.capture.proofs.ByKind.{above-five}
-use Rattle.playback.proofs.records.event_of.Statement.{statement}
-use Rattle.playback.proofs.records.event_of.Tie as tie
+use Rattle.records.proofs.event_of.Statement.{statement}
+use Rattle.records.proofs.event_of.Tie as tie
 
 pub event-of-spec : {M : Type 1} → statement M
 unfolding kindOf

@@ -15,8 +15,7 @@ use Rattle.capture.specs.Kinds.{Kind, instructionWrite, dataWrite, statusRead, 
 use Rattle.calls.specs.State.{State}
 use Rattle.calls.specs.Calls.{Called, refused, called}
 use Rattle.calls.proofs.Kept.{Unmoved, called-unmoved, called-length}
-use Rattle.printed.specs.Text.{RecordAnswer, recordAnswer}
-use Rattle.playback.specs.Records.{asks, calledOn, firstNumber, calledInTurn, recordCalled}
+use Rattle.records.specs.Records.{asks, calledOn, firstNumber, calledInTurn, recordCalled}
 
 -- a record asks for one event, or for the bits of its value
 pub one-or-bits :
@@ -76,10 +75,6 @@ module _ (e : Seen) (s : State) (frame : List ℕ) where
       in-turn-accepted event [] z
       ∙ rw add-zero (ap (λ (n : ℕ). record { state = k .state; number = n; reply = k .reply; count = k .count; frame = k .frame }) (sym z)))
       (λ t. in-turn-refused event [] (eqb-false (k .number) 0 t))
-
--- what an accepted record answers
-abbrev pub answerFrom : ℕ → Called → RecordAnswer
-answerFrom kind k = recordAnswer kind (k .reply) (k .count)
 
 module _ (e : Seen) (kind value : ℕ) (s : State) (frame : List ℕ) where
   -- earlier records stand, the refused one has no effect

@@ -9,7 +9,7 @@ ghost use mathlib.Core.Path.{_≡_};
 ghost use Rattle.picture.specs.Picture.{seen};
 ghost use Rattle.calls.specs.State.{Valid};
 ghost use Rattle.panel.specs.Handed.{stateOf, handed};
-ghost use Rattle.playback.specs.Records.{asks, calledInTurn, recordCalled};
+ghost use Rattle.records.specs.Records.{asks, calledInTurn, recordCalled};
 ghost use Rattle.capture.specs.Kinds.{kindOf, eightBits};
 
 // Eight bits of the serial link, highest first. On the other link the first is refused, and none is heard.
@@ -66,7 +66,7 @@ fn event_of(kind: u8, value: u8) -> Event
 }
 
 // A record that the capture's reader let pass.
-pub(crate) fn obey(
+pub fn obey(
     panel: Panel,
     kind: u8,
     value: u8,

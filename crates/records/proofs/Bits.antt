@@ -12,9 +12,9 @@ use Rattle.capture.specs.Kinds.{eightBits}
 use Rattle.calls.specs.State.{State, Valid}
 use Rattle.events.specs.declared.Event.the-variants.{Bit}
 use Rattle.calls.specs.Calls.{Called, called}
-use Rattle.playback.specs.Records.{asks, calledOn, calledInTurn}
+use Rattle.records.specs.Records.{asks, calledOn, calledInTurn}
 use Rattle.calls.proofs.Kept.{called-count, called-length}
-use Rattle.playback.proofs.Refused.{in-turn-accepted, in-turn-refused}
+use Rattle.records.proofs.Refused.{in-turn-accepted, in-turn-refused}
 
 -- the lowest bits of a value, as many as are left, highest first
 unfoldable pub lowest : ℕ → ℕ → List Bool

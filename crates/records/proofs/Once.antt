@@ -31,11 +31,11 @@ use Rattle.repaint.proofs.Counts.{count-nothing}
 use Rattle.calls.specs.State.{State, state}
 use Rattle.calls.specs.Calls.{Called, refused, accepted, called}
 use Rattle.capture.specs.Kinds.{kindOf}
-use Rattle.playback.specs.Records.{calledOn, calledInTurn, recordCalled}
-use Rattle.playback.specs.Statements.{countsInTurn, OneCounts, EightBitsCountOnce}
+use Rattle.records.specs.Records.{calledOn, calledInTurn, recordCalled}
+use Rattle.records.specs.Statements.{countsInTurn, OneCounts, EightBitsCountOnce}
 use Rattle.calls.proofs.Kept.{called-count, called-length}
-use Rattle.playback.proofs.Bits.{lowest}
-use Rattle.playback.proofs.Refused.{one-or-bits, in-turn-accepted, in-turn-refused, one-in-turn}
+use Rattle.records.proofs.Bits.{lowest}
+use Rattle.records.proofs.Refused.{one-or-bits, in-turn-accepted, in-turn-refused, one-in-turn}
 
 sum : List ℕ → ℕ
 sum [] = 0

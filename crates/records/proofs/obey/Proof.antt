@@ -1,8 +1,8 @@
 -- Eight bits, or one event.
 use borrow.Author.Needs.{needs}
-use Rattle.playback.proofs.Refused.{record-of-one, record-of-bits}
-use Rattle.playback.proofs.records.obey.Statement.{statement}
-use Rattle.playback.proofs.records.obey.Tie as tie
+use Rattle.records.proofs.Refused.{record-of-one, record-of-bits}
+use Rattle.records.proofs.obey.Statement.{statement}
+use Rattle.records.proofs.obey.Tie as tie
 
 pub obey-spec : {M : Type 1} → statement M
 obey-spec =

@@ -2,9 +2,9 @@
 use mathlib.Core.Path.{_∙_}
 use native.Mathlib.Omega.{arith}
 use Rattle.panel.specs.Handed.{stateOf}
-use Rattle.playback.proofs.Bits.{Hearing, refuses, begins, accepts, fits, turns, ends}
-use Rattle.playback.proofs.records.eight_bits.Statement.{statement}
-use Rattle.playback.proofs.records.eight_bits.Tie as tie
+use Rattle.records.proofs.Bits.{Hearing, refuses, begins, accepts, fits, turns, ends}
+use Rattle.records.proofs.eight_bits.Statement.{statement}
+use Rattle.records.proofs.eight_bits.Tie as tie
 
 abbrev Inv-loop : tie.InvT-loop
 Inv-loop value frame₀ half full phase next₀ reply₀ count₀ left₀ frame next reply count left =

@@ -1,0 +1,3 @@
+pub mod Refused
+pub mod Once
+pub mod Bits
