@@ -106,7 +106,7 @@ fn on_lent(what: u8) -> u32 {
     let mut i: u32 = 0;
     while i < TIMES {
         let given = turn(what, i);
-        let answer = calls::transfer(
+        let answer = lent_calls::transfer(
             &mut text,
             &mut glyph,
             &mut graphic,
