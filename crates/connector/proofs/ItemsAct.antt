@@ -13,12 +13,12 @@ use Rattle.events.specs.declared.Deed.the-variants as deeds
 use Rattle.links.specs.declared.Link.the-variants.{Parallel, Serial}
 use Rattle.links.specs.declared.Pairing.{Pairing}
 use Rattle.links.specs.declared.Pairing.the-variants.{Empty, Upper}
-use Rattle.links.specs.declared.Sync.{Sync}
-use Rattle.links.specs.declared.Sync.the-variants.{Body}
-use Rattle.links.specs.declared.Receiver.{Receiver}
-use Rattle.links.specs.declared.Receiver.the-variants.{Outside}
-use Rattle.links.specs.declared.Received.{Received}
-use Rattle.links.specs.declared.Received.the-variants.{Nothing, Byte}
+use Rattle.serial.specs.declared.Sync.{Sync}
+use Rattle.serial.specs.declared.Sync.the-variants.{Body}
+use Rattle.serial.specs.declared.Receiver.{Receiver}
+use Rattle.serial.specs.declared.Receiver.the-variants.{Outside}
+use Rattle.serial.specs.declared.Received.{Received}
+use Rattle.serial.specs.declared.Received.the-variants.{Nothing, Byte}
 use Rattle.links.specs.declared.Carried.{Carried}
 use Rattle.links.specs.Halves.{bits7-4, writing, acts, paired}
 use Rattle.connector.specs.Listened.{Listened, listened}

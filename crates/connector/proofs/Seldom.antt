@@ -9,14 +9,14 @@ use lib.ListN.{length}
 use native.Mathlib.Omega.{arith}
 use borrow.Author.Tests.{ltb-false}
 use Rattle.base.specs.Choice.{if_then_else_}
-use Rattle.links.specs.declared.Header.the-variants.{Begun, WithRead, WithRegister}
-use Rattle.links.specs.declared.Sync.{Sync}
-use Rattle.links.specs.declared.Sync.the-variants.{Lost, Body}
-use Rattle.links.specs.declared.Receiver.{Receiver}
-use Rattle.links.specs.declared.Receiver.the-variants.{Inside, Outside}
-use Rattle.links.specs.declared.Received.{Received}
-use Rattle.links.specs.declared.Received.the-variants.{Nothing, Byte}
-use Rattle.links.specs.Serial.{counted, afterHeader, headerBit, dataNext, pushed, bodyBit, completed, heard}
+use Rattle.serial.specs.declared.Header.the-variants.{Begun, WithRead, WithRegister}
+use Rattle.serial.specs.declared.Sync.{Sync}
+use Rattle.serial.specs.declared.Sync.the-variants.{Lost, Body}
+use Rattle.serial.specs.declared.Receiver.{Receiver}
+use Rattle.serial.specs.declared.Receiver.the-variants.{Inside, Outside}
+use Rattle.serial.specs.declared.Received.{Received}
+use Rattle.serial.specs.declared.Received.the-variants.{Nothing, Byte}
+use Rattle.serial.specs.Serial.{counted, afterHeader, headerBit, dataNext, pushed, bodyBit, completed, heard}
 use Rattle.connector.specs.Listened.{listened, bytesIn}
 use Rattle.connector.specs.Statements.{AtMostOneByte}
 

@@ -8,14 +8,14 @@ use native.Mathlib.Omega.{arith}
 use Rattle.base.specs.Choice.{if_then_else_}
 use Rattle.base.specs.Bits.{bit, bits3-0}
 use Rattle.base.proofs.Below.{below, _&_}
-use Rattle.links.specs.declared.Sync.{Sync}
-use Rattle.links.specs.declared.Sync.the-variants.{Body}
-use Rattle.links.specs.declared.Receiver.{Receiver}
-use Rattle.links.specs.declared.Receiver.the-variants.{Outside}
-use Rattle.links.specs.declared.Received.{Received}
-use Rattle.links.specs.declared.Received.the-variants.{Nothing, Byte}
+use Rattle.serial.specs.declared.Sync.{Sync}
+use Rattle.serial.specs.declared.Sync.the-variants.{Body}
+use Rattle.serial.specs.declared.Receiver.{Receiver}
+use Rattle.serial.specs.declared.Receiver.the-variants.{Outside}
+use Rattle.serial.specs.declared.Received.{Received}
+use Rattle.serial.specs.declared.Received.the-variants.{Nothing, Byte}
 use Rattle.links.specs.Halves.{bits7-4, raised}
-use Rattle.links.specs.Serial.{counted, afterHeader, headerBit, pushed, bodyBit, completed, heard}
+use Rattle.serial.specs.Serial.{counted, afterHeader, headerBit, pushed, bodyBit, completed, heard}
 use Rattle.connector.specs.Listened.{Listened, listened}
 use Rattle.links.specs.Sender.{headerByte, highestFirst}
 use Rattle.connector.specs.Items.{bitsOf}

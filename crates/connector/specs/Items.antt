@@ -12,9 +12,9 @@ use Rattle.events.specs.declared.Deed.the-variants.{Nothing, Whole}
 use Rattle.links.specs.declared.Link.{Link}
 use Rattle.links.specs.declared.Link.the-variants.{Parallel, Serial}
 use Rattle.links.specs.declared.Pairing.the-variants.{Empty}
-use Rattle.links.specs.declared.Sync.{Sync}
-use Rattle.links.specs.declared.Sync.the-variants.{Body}
-use Rattle.links.specs.declared.Receiver.the-variants.{Outside}
+use Rattle.serial.specs.declared.Sync.{Sync}
+use Rattle.serial.specs.declared.Sync.the-variants.{Body}
+use Rattle.serial.specs.declared.Receiver.the-variants.{Outside}
 use Rattle.links.specs.declared.Taken.the-variants.{Carries}
 use Rattle.links.specs.Halves.{bits7-4, raised, writing}
 use Rattle.links.specs.Idle.{idle}

@@ -2,10 +2,10 @@
 use Prim.Native.Nat.{ℕ, suc}
 use mathlib.Core.Bool.{Bool}
 use mathlib.Core.List.{List, [], _∷_}
-use Rattle.links.specs.declared.Receiver.{Receiver}
-use Rattle.links.specs.declared.Received.{Received}
-use Rattle.links.specs.declared.Received.the-variants.{Nothing, Byte}
-use Rattle.links.specs.Serial.{heard}
+use Rattle.serial.specs.declared.Receiver.{Receiver}
+use Rattle.serial.specs.declared.Received.{Received}
+use Rattle.serial.specs.declared.Received.the-variants.{Nothing, Byte}
+use Rattle.serial.specs.Serial.{heard}
 
 -- bits in a row: the receiver after them, and what each of them brought
 pub record Listened : Type 0 where

@@ -11,11 +11,11 @@ use Rattle.base.specs.Bits.{bits3-0}
 use Rattle.links.specs.declared.Pairing.the-variants.{Empty, Upper}
 use Rattle.events.specs.declared.Deed.the-variants.{Whole}
 use Rattle.links.specs.declared.Link.the-variants.{Parallel}
-use Rattle.links.specs.declared.Sync.{Sync}
-use Rattle.links.specs.declared.Sync.the-variants.{Body}
-use Rattle.links.specs.declared.Receiver.{Receiver}
-use Rattle.links.specs.declared.Receiver.the-variants.{Outside}
-use Rattle.links.specs.declared.Received.the-variants.{Nothing, Byte}
+use Rattle.serial.specs.declared.Sync.{Sync}
+use Rattle.serial.specs.declared.Sync.the-variants.{Body}
+use Rattle.serial.specs.declared.Receiver.{Receiver}
+use Rattle.serial.specs.declared.Receiver.the-variants.{Outside}
+use Rattle.serial.specs.declared.Received.the-variants.{Nothing, Byte}
 use Rattle.links.specs.Halves.{bits7-4, joined, writing, reading, kept, acts, paired}
 use Rattle.connector.specs.Listened.{listened, bytesIn}
 use Rattle.links.specs.Sender.{threeBytes}

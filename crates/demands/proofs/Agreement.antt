@@ -16,7 +16,7 @@ use Rattle.events.specs.declared.Event.{Event}
 use Rattle.events.specs.declared.Deed.{Deed}
 use Rattle.events.specs.declared.Deed.the-variants as deeds
 use Rattle.links.specs.declared.Link.{Link}
-use Rattle.links.specs.declared.Sync.the-variants.{Lost}
+use Rattle.serial.specs.declared.Sync.the-variants.{Lost}
 use Rattle.links.specs.declared.Taken.{Taken}
 use Rattle.links.specs.declared.Taken.the-variants.{OtherLink, Carries}
 use Rattle.connector.specs.Items.{WholeWrite, Item, write, besideWires, deed, Way, wholeBytes, halves, serial, bitsOf, wires, writeDeeds, wireDeeds, idleOn, resting, syncAfter}

@@ -12,7 +12,7 @@ use Rattle.deeds.specs.Transfers.{performed}
 use Rattle.events.specs.declared.Event.the-variants.{SelectLow}
 use Rattle.links.specs.declared.Link.{Link}
 use Rattle.links.specs.declared.Link.the-variants.{Serial}
-use Rattle.links.specs.declared.Receiver.{Receiver}
+use Rattle.serial.specs.declared.Receiver.{Receiver}
 use Rattle.links.specs.Idle.{idle}
 use Rattle.links.specs.Taken.{takenBy}
 use Rattle.picture.specs.Picture.{Seen}

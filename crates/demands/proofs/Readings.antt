@@ -19,7 +19,7 @@ use Rattle.links.specs.declared.Taken.{Taken}
 use Rattle.links.specs.declared.Taken.the-variants.{OtherLink, Carries}
 use Rattle.links.specs.Taken.{byWidth, takenBy}
 use Rattle.connector.specs.Items.{bitsOf}
-use Rattle.links.specs.Serial.{counted, afterHeader, headerBit, bodyBit, completed, heard}
+use Rattle.serial.specs.Serial.{counted, afterHeader, headerBit, bodyBit, completed, heard}
 use Rattle.glyph.specs.Numbering.{numberOf}
 use Rattle.picture.specs.Picture.{Seen}
 use Rattle.picture.specs.Refusals.{refusalOf}

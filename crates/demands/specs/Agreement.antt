@@ -7,7 +7,7 @@ use mathlib.Core.Path.{_≡_}
 use lib.ListN.{length, replicate}
 use Rattle.events.specs.declared.Event.{Event}
 use Rattle.links.specs.declared.Link.{Link}
-use Rattle.links.specs.declared.Sync.the-variants.{Lost}
+use Rattle.serial.specs.declared.Sync.the-variants.{Lost}
 use Rattle.connector.specs.Items.{WholeWrite, Item, Way, serial, wires, idleOn, resting, syncAfter, Alike}
 use Rattle.connector.specs.Connector.{Came, Comes, elsewhere, comes, eventAt, KeepsDl}
 use Rattle.picture.specs.Picture.{Seen}

@@ -14,7 +14,7 @@ use Rattle.events.specs.declared.Event.{Event}
 use Rattle.events.specs.declared.Pin.{Pin}
 use Rattle.events.specs.declared.Event.the-variants.{Transfer, Bit, SelectLow, Reset}
 use Rattle.events.specs.declared.Transfer.the-variants.{Instruct, Write, Status, Read}
-use Rattle.links.specs.declared.Receiver.{Receiver}
+use Rattle.serial.specs.declared.Receiver.{Receiver}
 use Rattle.links.specs.declared.Link.the-variants.{Serial}
 use Rattle.links.specs.Idle.{idle}
 use Rattle.links.specs.Sender.{threeBytes, leaving, sent}

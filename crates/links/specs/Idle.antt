@@ -1,15 +1,9 @@
 -- Document 01, "Memories and flags": a link that is idle.
 use mathlib.Core.Bool.{Bool, true, false}
 use Rattle.links.specs.declared.Pairing.the-variants.{Empty}
-use Rattle.links.specs.declared.Sync.the-variants.{Lost}
-use Rattle.links.specs.declared.Receiver.{Receiver}
-use Rattle.links.specs.declared.Receiver.the-variants.{Outside}
+use Rattle.serial.specs.Serial.{idleReceiver}
 use Rattle.links.specs.declared.Link.{Link}
 use Rattle.links.specs.declared.Link.the-variants.{Parallel, Serial}
-
--- serial: out of sync, and no run of ones
-abbrev pub idleReceiver : Receiver
-idleReceiver = Outside 0 Lost
 
 -- the interface pin: 0 serial, 1 parallel; parallel: no half byte is open
 abbrev pub idle : Bool → Link

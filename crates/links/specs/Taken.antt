@@ -9,9 +9,9 @@ use Rattle.links.specs.declared.Link.{Link}
 use Rattle.links.specs.declared.Link.the-variants.{Parallel, Serial}
 use Rattle.links.specs.declared.Pairing.{Pairing}
 use Rattle.links.specs.declared.Pairing.the-variants.{Empty}
-use Rattle.links.specs.declared.Received.{Received}
-use Rattle.links.specs.declared.Received.the-variants as received
-use Rattle.links.specs.declared.Heard.{Heard}
+use Rattle.serial.specs.declared.Received.{Received}
+use Rattle.serial.specs.declared.Received.the-variants as received
+use Rattle.serial.specs.declared.Heard.{Heard}
 use Rattle.events.specs.declared.Deed.{Deed}
 use Rattle.events.specs.declared.Deed.the-variants.{Nothing, Whole, Fresh}
 use Rattle.links.specs.declared.Rest.{Rest}
@@ -21,7 +21,7 @@ use Rattle.links.specs.declared.Taken.{Taken}
 use Rattle.links.specs.declared.Taken.the-variants.{OtherLink, Carries}
 use Rattle.links.specs.declared.Replied.{Replied}
 use Rattle.links.specs.Halves.{writing, paired, firstReply, pairingAfter}
-use Rattle.links.specs.Serial.{heard, afterSelectLow}
+use Rattle.serial.specs.Serial.{heard, afterSelectLow}
 use Rattle.links.specs.Idle.{idle}
 
 -- the controller's answer is the reply, and the link is this

@@ -3,15 +3,13 @@
 // are cut by `%` where a state could hold more bits than document 01 gives it, so that no sum or product can wrap.
 mod halves;
 mod sender;
-mod serial;
 mod taking;
 
 use events::Deed;
 use events::Transfer;
 pub use sender::send;
-pub use serial::hear;
-pub use serial::idle_receiver;
-pub use serial::select_low;
+use serial::Receiver;
+use serial::idle_receiver;
 pub use taking::reply;
 pub use taking::take;
 ghost use mathlib.Core.Path.{_≡_};
@@ -56,37 +54,6 @@ pub enum Pairing {
     Empty,
     Upper { register: bool, upper: u8 },
     Lower { register: bool, lower: u8 },
-}
-
-// How much of a header has come.
-pub enum Header {
-    Begun,
-    WithRead(bool),
-    WithRegister { read: bool, register: bool },
-}
-
-// Outside a header: out of sync, or in a body, with the bits seen of the next byte and the data among them.
-pub enum Sync {
-    Lost,
-    Body { register: bool, seen: u8, byte: u8 },
-}
-
-// Where the serial receiver stands. There is a run of ones only outside a header.
-pub enum Receiver {
-    Inside(Header),
-    Outside { run: u8, sync: Sync },
-}
-
-// What a bit completes: nothing, or a byte that is to act.
-pub enum Received {
-    Nothing,
-    Byte { register: bool, byte: u8 },
-}
-
-// What a bit leaves.
-pub struct Heard {
-    pub receiver: Receiver,
-    pub received: Received,
 }
 
 // A link with nothing half received.

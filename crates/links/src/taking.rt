@@ -2,7 +2,6 @@
 use crate::Carried;
 use crate::Link;
 use crate::Pairing;
-use crate::Received;
 use crate::Replied;
 use crate::Rest;
 use crate::Taken;
@@ -11,11 +10,12 @@ use crate::halves::pair;
 use crate::halves::pairing_after;
 use crate::halves::writing;
 use crate::idle;
-use crate::serial::hear;
-use crate::serial::select_low;
 use events::Deed;
 use events::Event;
 use events::Transfer;
+use serial::Received;
+use serial::hear;
+use serial::select_low;
 ghost use mathlib.Core.Path.{_≡_};
 ghost use Rattle.links.specs.Taken.{stays, deedOf, byWidth, transferTaken, bitTaken, selectTaken, takenBy, replied};
 

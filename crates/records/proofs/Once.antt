@@ -13,15 +13,15 @@ use Rattle.controller.specs.Memories.{Memories}
 use Rattle.deeds.specs.Transfers.{performed}
 use Rattle.links.specs.declared.Link.{Link}
 use Rattle.links.specs.declared.Link.the-variants.{Parallel, Serial}
-use Rattle.links.specs.declared.Receiver.{Receiver}
-use Rattle.links.specs.declared.Received.{Received}
-use Rattle.links.specs.declared.Received.the-variants as received
-use Rattle.links.specs.declared.Heard.{Heard}
+use Rattle.serial.specs.declared.Receiver.{Receiver}
+use Rattle.serial.specs.declared.Received.{Received}
+use Rattle.serial.specs.declared.Received.the-variants as received
+use Rattle.serial.specs.declared.Heard.{Heard}
 use Rattle.events.specs.declared.Event.{Event}
 use Rattle.events.specs.declared.Event.the-variants.{Bit}
 use Rattle.links.specs.declared.Rest.the-variants.{Stays}
 use Rattle.links.specs.Taken.{deedOf, takenBy}
-use Rattle.links.specs.Serial as serial
+use Rattle.serial.specs.Serial as serial
 use Rattle.connector.specs.Listened as listens
 use Rattle.connector.proofs.Seldom.{at-most-one-byte}
 use Rattle.picture.specs.Picture.{Seen}

@@ -1,11 +1,11 @@
 // A state as bytes, in the order of `packed` and `linkPacked`.
 use controller::Control;
 use controller::Waiting;
-use links::Header;
 use links::Link;
 use links::Pairing;
-use links::Receiver;
-use links::Sync;
+use serial::Header;
+use serial::Receiver;
+use serial::Sync;
 use table::Target;
 ghost use mathlib.Core.Path.{_≡_};
 ghost use Rattle.state_bytes.specs.Packed.{targetByte, waitsByte, waitingByte, packed};

@@ -3,8 +3,8 @@
 // would receive something else.
 use crate::saying::print;
 use crate::saying::print_byte;
-use links::Received;
-use links::Receiver;
+use serial::Received;
+use serial::Receiver;
 
 // A receiver, and whether it has received anything yet.
 struct Ear {
@@ -59,7 +59,7 @@ fn cut(before: &[u8], after: &[u8]) {
     let ear = heard(idle(), before);
     let high = ear.receiver;
     let low = Ear {
-        receiver: links::select_low(high),
+        receiver: serial::select_low(high),
         any: ear.any,
     };
     end(heard(low, after));
@@ -67,7 +67,7 @@ fn cut(before: &[u8], after: &[u8]) {
 
 fn idle() -> Ear {
     Ear {
-        receiver: links::idle_receiver(),
+        receiver: serial::idle_receiver(),
         any: false,
     }
 }
@@ -97,7 +97,7 @@ fn byte_heard(ear: Ear, byte: u8) -> Ear {
 
 fn bit_heard(ear: Ear, bit: bool) -> Ear {
     let before = ear.receiver;
-    let heard = links::hear(before, bit);
+    let heard = serial::hear(before, bit);
     let receiver = heard.receiver;
     let received = heard.received;
     match received {

@@ -1,9 +1,9 @@
 -- By the bit, then by what the receiver holds and how many bits it has seen.
 use borrow.Author.Needs.{needs}
 use borrow.Author.Tests.{lt-ltb, le-ltb}
-use Rattle.links.specs.Serial.{completed}
-use Rattle.links.proofs.serial.completed.Statement.{statement}
-use Rattle.links.proofs.serial.completed.Tie as tie
+use Rattle.serial.specs.Serial.{completed}
+use Rattle.serial.proofs.completed.Statement.{statement}
+use Rattle.serial.proofs.completed.Tie as tie
 
 pub completed-spec : {M : Type 1} → statement M
 unfolding completed

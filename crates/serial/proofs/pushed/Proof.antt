@@ -1,8 +1,8 @@
 -- By the bit.
 use borrow.Author.Needs.{needs}
 use native.Mathlib.Omega.{arith}
-use Rattle.links.proofs.serial.pushed.Statement.{statement}
-use Rattle.links.proofs.serial.pushed.Tie as tie
+use Rattle.serial.proofs.pushed.Statement.{statement}
+use Rattle.serial.proofs.pushed.Tie as tie
 
 pub pushed-spec : {M : Type 1} → statement M
 pushed-spec =

@@ -3,15 +3,15 @@ use Prim.Native.Nat.{ℕ, _+_, _*_, _%_}
 use mathlib.Core.Bool.{Bool, true, false}
 use lib.Dec.{ltb}
 use Rattle.base.specs.Choice.{if_then_else_}
-use Rattle.links.specs.declared.Header.{Header}
-use Rattle.links.specs.declared.Header.the-variants.{Begun, WithRead, WithRegister}
-use Rattle.links.specs.declared.Sync.{Sync}
-use Rattle.links.specs.declared.Sync.the-variants.{Lost, Body}
-use Rattle.links.specs.declared.Receiver.{Receiver}
-use Rattle.links.specs.declared.Receiver.the-variants.{Inside, Outside}
-use Rattle.links.specs.declared.Received.{Received}
-use Rattle.links.specs.declared.Received.the-variants.{Nothing, Byte}
-use Rattle.links.specs.declared.Heard.{Heard}
+use Rattle.serial.specs.declared.Header.{Header}
+use Rattle.serial.specs.declared.Header.the-variants.{Begun, WithRead, WithRegister}
+use Rattle.serial.specs.declared.Sync.{Sync}
+use Rattle.serial.specs.declared.Sync.the-variants.{Lost, Body}
+use Rattle.serial.specs.declared.Receiver.{Receiver}
+use Rattle.serial.specs.declared.Receiver.the-variants.{Inside, Outside}
+use Rattle.serial.specs.declared.Received.{Received}
+use Rattle.serial.specs.declared.Received.the-variants.{Nothing, Byte}
+use Rattle.serial.specs.declared.Heard.{Heard}
 
 -- five ones in a row always begin a header, outside a header; what was half received is dropped
 unfoldable pub counted : ℕ → Bool → Sync → Receiver
@@ -63,6 +63,10 @@ unfoldable pub heard : Receiver → Bool → Heard
 heard (Inside header) bit = record { receiver = headerBit header bit; received = Nothing }
 heard (Outside run sync) bit = record { receiver = counted run bit (bodyBit sync bit); received = completed sync bit }
 
+-- idle: out of sync, and no run of ones
+abbrev pub idleReceiver : Receiver
+idleReceiver = Outside 0 Lost
+
 -- chip select low loses sync and clears the run
 abbrev pub afterSelectLow : Receiver → Receiver
-afterSelectLow receiver = Outside 0 Lost
+afterSelectLow receiver = idleReceiver

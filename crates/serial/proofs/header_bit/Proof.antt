@@ -1,8 +1,8 @@
 -- By the bits of the header that have come.
 use borrow.Author.Needs.{needs}
-use Rattle.links.specs.Serial.{headerBit}
-use Rattle.links.proofs.serial.header_bit.Statement.{statement}
-use Rattle.links.proofs.serial.header_bit.Tie as tie
+use Rattle.serial.specs.Serial.{headerBit}
+use Rattle.serial.proofs.header_bit.Statement.{statement}
+use Rattle.serial.proofs.header_bit.Tie as tie
 
 pub header-bit-spec : {M : Type 1} → statement M
 unfolding headerBit

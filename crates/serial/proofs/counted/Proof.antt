@@ -1,9 +1,9 @@
 -- By the bit, then by the run.
 use borrow.Author.Needs.{needs}
 use borrow.Author.Tests.{lt-ltb, le-ltb, not-true, not-false}
-use Rattle.links.specs.Serial.{counted}
-use Rattle.links.proofs.serial.counted.Statement.{statement}
-use Rattle.links.proofs.serial.counted.Tie as tie
+use Rattle.serial.specs.Serial.{counted}
+use Rattle.serial.proofs.counted.Statement.{statement}
+use Rattle.serial.proofs.counted.Tie as tie
 
 pub counted-spec : {M : Type 1} → statement M
 unfolding counted

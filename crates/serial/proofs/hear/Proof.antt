@@ -1,8 +1,8 @@
 -- Inside a header and outside, by what the callees ensure.
 use borrow.Author.Needs.{needs}
-use Rattle.links.specs.Serial.{heard}
-use Rattle.links.proofs.serial.hear.Statement.{statement}
-use Rattle.links.proofs.serial.hear.Tie as tie
+use Rattle.serial.specs.Serial.{heard}
+use Rattle.serial.proofs.hear.Statement.{statement}
+use Rattle.serial.proofs.hear.Tie as tie
 
 pub hear-spec : {M : Type 1} → statement M
 unfolding heard

@@ -1,9 +1,9 @@
 -- By what the receiver holds and how many bits it has seen, then by the bit.
 use borrow.Author.Needs.{needs}
 use borrow.Author.Tests.{lt-ltb, le-ltb}
-use Rattle.links.specs.Serial.{bodyBit}
-use Rattle.links.proofs.serial.body_bit.Statement.{statement}
-use Rattle.links.proofs.serial.body_bit.Tie as tie
+use Rattle.serial.specs.Serial.{bodyBit}
+use Rattle.serial.proofs.body_bit.Statement.{statement}
+use Rattle.serial.proofs.body_bit.Tie as tie
 
 pub body-bit-spec : {M : Type 1} → statement M
 unfolding bodyBit

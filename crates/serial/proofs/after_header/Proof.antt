@@ -1,8 +1,8 @@
 -- By the read bit, then by the third.
 use borrow.Author.Needs.{needs}
-use Rattle.links.specs.Serial.{afterHeader}
-use Rattle.links.proofs.serial.after_header.Statement.{statement}
-use Rattle.links.proofs.serial.after_header.Tie as tie
+use Rattle.serial.specs.Serial.{afterHeader}
+use Rattle.serial.proofs.after_header.Statement.{statement}
+use Rattle.serial.proofs.after_header.Tie as tie
 
 pub after-header-spec : {M : Type 1} → statement M
 unfolding afterHeader

@@ -1,13 +1,38 @@
 // The serial link: a receiver that hears one bit at a time.
-use crate::Header;
-use crate::Heard;
-use crate::Received;
-use crate::Receiver;
-use crate::Sync;
 ghost use mathlib.Core.Path.{_≡_};
-ghost use Rattle.links.specs.declared.Sync.the-variants.{Body};
-ghost use Rattle.links.specs.Serial.{counted, afterHeader, headerBit, pushed, bodyBit, completed, heard, afterSelectLow};
-ghost use Rattle.links.specs.Idle.{idleReceiver};
+ghost use Rattle.serial.specs.declared.Sync.the-variants.{Body};
+ghost use Rattle.serial.specs.Serial.{counted, afterHeader, headerBit, pushed, bodyBit, completed, heard, idleReceiver, afterSelectLow};
+
+// How much of a header has come.
+pub enum Header {
+    Begun,
+    WithRead(bool),
+    WithRegister { read: bool, register: bool },
+}
+
+// Outside a header: out of sync, or in a body, with the bits seen of the next byte and the data among them.
+pub enum Sync {
+    Lost,
+    Body { register: bool, seen: u8, byte: u8 },
+}
+
+// Where the serial receiver stands. There is a run of ones only outside a header.
+pub enum Receiver {
+    Inside(Header),
+    Outside { run: u8, sync: Sync },
+}
+
+// What a bit completes: nothing, or a byte that is to act.
+pub enum Received {
+    Nothing,
+    Byte { register: bool, byte: u8 },
+}
+
+// What a bit leaves.
+pub struct Heard {
+    pub receiver: Receiver,
+    pub received: Received,
+}
 
 // One serial bit, with chip select high.
 pub fn hear(receiver: Receiver, bit: bool) -> Heard
