@@ -155,14 +155,23 @@ fn print_lengths(n: usize, h: usize, f: usize) {
     print(b"\n");
 }
 
+// Long buffers come from functions, so that a proof knows their lengths alone and never writes them out.
+fn long_frame() -> [u8; 65536] {
+    [UNTOUCHED; 65536]
+}
+
+fn long_full_font() -> [u8; 267296] {
+    [0u8; 267296]
+}
+
 // Every call with buffers of these lengths.
 fn lent(n: usize, h: usize, f: usize)
     requires { ⌜ (n ≤ 65536) × (h ≤ 2049) × (f ≤ 267296) ⌝ }
 {
-    let mut frame = [UNTOUCHED; 65536];
-    let mut other = [UNTOUCHED; 65536];
+    let mut frame = long_frame();
+    let mut other = long_frame();
     let half = [0u8; 2049];
-    let full = [0u8; 267296];
+    let full = long_full_font();
     print_lengths(n, h, f);
     on_parallel(&mut frame[..n], &half[..h], &full[..f]);
     on_serial(&mut other[..n], &half[..h], &full[..f]);
