@@ -18,6 +18,7 @@ built-in-spec =
     (tie.spec
     Inv-loop
     μ-loop
+    (λ c κs. search needs)
     (λ c. refl)
     (λ c κs. search needs)
     (λ c. search needs)
