@@ -1,6 +1,7 @@
 -- Single bytes of the picture, as the code finds them.
 use Prim.Native.Nat.{ℕ, _+_, _*_, _/_, _%_, _<_}
 use mathlib.Core.Path.{_≡_, refl}
+use mathlib.Core.Bool.{false, _&&_}
 use mathlib.Core.List.{List}
 use native.Mathlib.Nat.{add-zero}
 use native.Mathlib.Omega.{arith}
@@ -15,7 +16,7 @@ use Rattle.controller.specs.Glass.{shownRow, shownWord}
 use Rattle.glyph.specs.Lookup.{contentOf}
 use Rattle.glyph.specs.Dots.{dotsOf}
 use Rattle.picture.specs.declared.Look.{Look}
-use Rattle.picture.specs.Picture.{Fonts, right, wordContent, cellByte, graphicByte, atCounter, effectsOf, shaded, byteOver, byteAt}
+use Rattle.picture.specs.Picture.{Fonts, right, wordContent, cellByte, graphicByte, atCounter, filled, inverted, overlaid, darkened, byteOver, byteAt}
 use Rattle.picture.specs.Tiles.{counterWord}
 use Rattle.picture.proofs.Unread.{half-right}
 
@@ -33,8 +34,11 @@ graphic-column s column = let h = half-right column in omega arith
 
 -- with everything over the dots
 pub over-dots : (graphic : List ℕ) (look : Look) (row column dots : ℕ)
-    → shaded (effectsOf look ((row + look .view .scroll) % 64) (eqb (16 * ((row + look .view .scroll) % 64 / 16) + (column / 2 + look .view .shift) % 16) (counterWord (look .counter)))) dots
-    (getD graphic (32 * ((row + look .view .scroll) % 64) + column) 0)
+    → darkened (look .dark)
+    (overlaid (look .graphic) (getD graphic (32 * ((row + look .view .scroll) % 64) + column) 0)
+    (inverted (getD (look .view .reversed) ((row + look .view .scroll) % 64 / 16) false)
+    (inverted (eqb (16 * ((row + look .view .scroll) % 64 / 16) + (column / 2 + look .view .shift) % 16) (counterWord (look .counter)) && look .blink)
+    (filled (eqb (16 * ((row + look .view .scroll) % 64 / 16) + (column / 2 + look .view .shift) % 16) (counterWord (look .counter)) && (look .cursor && eqb ((row + look .view .scroll) % 64 % 16) 15)) dots))))
     ≡ byteOver dots graphic look row column
 unfolding byteOver graphicByte shownWord shownRow
 over-dots graphic look row column dots =

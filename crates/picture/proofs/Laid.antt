@@ -23,7 +23,7 @@ use Rattle.base.proofs.Copies.{one-further, not-yet}
 use Rattle.picture.specs.declared.Look.{Look}
 use Rattle.controller.specs.Memories.{Memories, half}
 use Rattle.controller.specs.Glass.{shownRow, shownWord}
-use Rattle.picture.specs.Picture.{Fonts, right, effectsOf, cellByte, graphicByte, filled, inverted, overlaid, darkened, shaded, byteOver, byteAt, wide, picture}
+use Rattle.picture.specs.Picture.{Fonts, right, cellByte, graphicByte, filled, inverted, overlaid, darkened, byteOver, byteAt, wide, picture}
 use Rattle.picture.specs.Tiles.{counterWord, wordDots, lineWord, tileByte, byTile, fromTiles, inRows, bandEnd, shownBy, pairBy}
 use Rattle.picture.specs.declared.Pair.{Pair}
 use Rattle.picture.proofs.Bytes.{counter-here}
@@ -306,7 +306,7 @@ alight d x h = rw h
 module _ (e : Fonts) (m : Memories) (look : Look) where
   -- where nothing shows
   pub dark-picture : look .dark ≡ true → upto 1024 (λ i. 0) ≡ picture wide e m look
-  unfolding picture byteAt byteOver shaded effectsOf
+  unfolding picture byteAt byteOver
   dark-picture h = upto-cong 1024 _ _ (λ i l. rw h)
 
   -- a byte of the picture is the tile's, with the graphic over it
@@ -314,7 +314,7 @@ module _ (e : Fonts) (m : Memories) (look : Look) where
       ≡ darkened (look .dark)
       (overlaid (look .graphic) (graphicByte (m .graphic) (look .view) row column)
       (tileByte e (m .text) (m .glyph) look (shownWord (look .view) row (column / 2)) (2 * (shownRow (look .view) row % 16) + column % 2)))
-  unfolding byteAt byteOver shaded effectsOf cellByte tileByte shownWord
+  unfolding byteAt byteOver cellByte tileByte shownWord
   byte-by-tile row column =
       let s = shownRow (look .view) row in
       let a : (2 * (s % 16) + column % 2) / 2 ≡ s % 16 = omega arith in

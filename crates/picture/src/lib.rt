@@ -23,15 +23,6 @@ pub struct Look {
     pub dark: bool,
 }
 
-// What is done to the dots of one row of a cell, in the order of the fields.
-pub(crate) struct Effects {
-    pub cursor: bool,
-    pub blink: bool,
-    pub reverse: bool,
-    pub graphic: bool,
-    pub dark: bool,
-}
-
 // The two bytes of one row of a cell.
 pub struct Pair {
     pub left: u8,

@@ -1,9 +1,11 @@
 // Single bytes of the picture, and the painter of one row of a cell.
 use crate::Look;
 use crate::Pair;
+use crate::shade::both;
 use crate::shade::counter_word;
-use crate::shade::effects;
-use crate::shade::shade;
+use crate::shade::invert;
+use crate::shade::lit;
+use crate::shade::mark;
 use glyph::dots::dot_byte;
 use glyph::lookup::content;
 ghost use mathlib.Core.Path.{_≡_};
@@ -31,9 +33,17 @@ pub fn byte_over(graphic: &[u8; 2048], look: Look, row: u32, column: u32, dots: 
     let word = 16 * (s / 16) + (column / 2 + look.view.shift as u32) % 16;
     let cell = look.counter;
     let here = word == counter_word(cell);
-    let over = effects(look, s, here);
+    let cursor = both(here, both(look.cursor, s % 16 == 15));
+    let marked = mark(cursor, both(here, look.blink), dots);
+    let reversed = look.view.reversed;
+    let line = s / 16;
     let place = 32 * s + column;
-    shade(over, dots, graphic[place as usize])
+    lit(
+        look.dark,
+        look.graphic,
+        graphic[place as usize],
+        invert(reversed[line as usize], marked),
+    )
 }
 
 // One byte of the glass, with one lookup of its word.

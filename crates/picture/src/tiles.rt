@@ -3,7 +3,7 @@ use crate::Look;
 use crate::Pair;
 use crate::shade::both;
 use crate::shade::counter_word;
-use crate::shade::overlay;
+use crate::shade::lit;
 use glyph::lookup::content;
 use glyph::tile::lay;
 ghost use mathlib.Core.Path.{_≡_};
@@ -13,7 +13,7 @@ ghost use lib.ListN.{length, getD};
 ghost use lib.Dec.{eqb};
 ghost use Rattle.base.specs.Lists.{upto};
 ghost use Rattle.base.specs.Painting.{painted, everywhere, between};
-ghost use Rattle.picture.specs.Picture.{fonts, overlaid, darkened};
+ghost use Rattle.picture.specs.Picture.{fonts};
 ghost use Rattle.picture.specs.Tiles.{wordDots, lineWord, tileByte, byTile, pairBy};
 
 // The word's dots, as the tile that begins at `to`.
@@ -136,16 +136,6 @@ pub fn lay_tile(
     fill_cursor(tile, 0, both(here, look.cursor));
     invert_if(tile, 0, 32, both(here, look.blink));
     invert_if(tile, 0, 32, reversed[line as usize]);
-}
-
-// A tile's byte as it shows: with the graphic over it, or nothing in the dark.
-fn lit(dark: bool, graphic: bool, dots: u8, byte: u8) -> u8
-    ensures { λ r. ⌜ r ≡ darkened dark (overlaid graphic dots byte) ⌝ }
-{
-    if dark {
-        return 0x00;
-    }
-    overlay(graphic, dots, byte)
 }
 
 // The two bytes that a cell's tile shows on a row of the glass.

@@ -1,4 +1,4 @@
--- The dots shaded, with what is done to them at this word.
+-- The dots marked, inverted, overlaid.
 use borrow.Author.Needs.{needs}
 use Rattle.picture.proofs.Bytes.{over-dots}
 use Rattle.picture.proofs.paint.byte_over.Statement.{statement}
@@ -16,9 +16,17 @@ byte-over-spec =
     (λ c. search needs)
     (λ c κs. search needs)
     (λ c κs. search needs)
+    (λ c κs. search needs)
+    (λ c κs. search needs)
+    (λ c κs. search needs)
+    (λ c. search needs)
+    (λ c. search needs)
     (λ c. search needs)
     (λ c. search needs)
     (λ c. search needs)
     (λ c. search needs)
     (λ c κs. search needs)
-    (λ c. rw (c .shade .ensures, c .before .before .effects .ensures, c .before .before .before .counter-word .ensures) (over-dots _ _ _ _ _)))
+    (λ c κs. search needs)
+    (λ c. let marks = c .before .before .before .before in let here = marks .before .before .before .before in let a = here .before .before .before .args in
+    rw (c .lit .ensures, c .before .invert .ensures, marks .mark .ensures, marks .before .both3 .ensures, marks .before .before .both2 .ensures, marks .before .before .before .both .ensures, here .counter-word .ensures)
+    (over-dots (a .graphic .now) (a .look) (a .row) (a .column) (a .dots))))
