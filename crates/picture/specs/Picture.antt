@@ -32,15 +32,11 @@ fonts half full = record { half = now (half .entry); full = now (full .entry) }
 
 -- what a call is seen with: the lent fonts and the blink phase
 pub record Seen : Type 0 where
-  pub half : List ℕ
-  pub full : List ℕ
+  pub fonts : Fonts
   pub phase : Bool
 
 abbrev pub seen : Lent → Lent → Bool → Seen
-seen half full phase = record { half = now (half .entry); full = now (full .entry); phase = phase }
-
-abbrev pub fontsOf : Seen → Fonts
-fontsOf e = record { half = e .half; full = e .full }
+seen half full phase = record { fonts = fonts half full; phase = phase }
 
 -- what the picture looks at beside the memories: the view; the counter's cell, if target is text, with its marks, the cursor and blink with
 -- phase 1; the graphic if G; dark if display 0 or standby
@@ -120,4 +116,4 @@ picture l e m look = wholeOn l (byteAt e m look)
 
 -- the picture of a state, as a call sees it
 abbrev pub pictured : Seen → Memories → Control → List ℕ
-pictured e m c = picture wide (fontsOf e) m (lookOf (e .phase) c)
+pictured e m c = picture wide (e .fonts) m (lookOf (e .phase) c)
