@@ -1,28 +1,34 @@
 -- Single bytes of the picture, as the code finds them.
 use Prim.Native.Nat.{ℕ, _+_, _*_, _/_, _%_, _<_}
 use mathlib.Core.Path.{_≡_, refl}
-use mathlib.Core.Bool.{false, _&&_}
+use mathlib.Core.Bool.{Bool, false, _&&_}
 use mathlib.Core.List.{List}
-use native.Mathlib.Nat.{add-zero}
 use native.Mathlib.Omega.{arith}
 use lib.ListN.{length, getD}
 use lib.Dec.{eqb}
 use borrow.Author.Tests.{ne-eqb}
+use Rattle.base.specs.Choice.{if_then_else_}
 use Rattle.controller.specs.declared.Cell.{Cell}
 use Rattle.controller.specs.declared.Cell.the-variants.{Nowhere, Word}
 use Rattle.controller.specs.declared.View.{View}
 use Rattle.controller.specs.Memories.{Memories, half}
 use Rattle.controller.specs.Glass.{shownRow, shownWord}
-use Rattle.glyph.specs.Lookup.{contentOf}
 use Rattle.glyph.specs.Dots.{dotsOf}
+use Rattle.glyph.specs.Tiles.{Inside}
 use Rattle.picture.specs.declared.Look.{Look}
-use Rattle.picture.specs.Picture.{Fonts, right, wordContent, cellByte, graphicByte, atCounter, filled, inverted, overlaid, darkened, byteOver, byteAt}
+use Rattle.picture.specs.Picture.{Fonts, right, wordContent, cellByte, graphicByte, atCounter, filled, inverted, overlaid, byteOver, byteAt}
 use Rattle.picture.specs.Tiles.{counterWord}
+use Rattle.glyph.proofs.Inside.{content-inside}
 use Rattle.picture.proofs.Unread.{half-right}
 
-pub shown-word-lt : (v : View) (row cell : ℕ) → shownWord v row cell < 64
+shown-word-lt : (v : View) (row cell : ℕ) → shownWord v row cell < 64
 unfolding shownWord shownRow
 shown-word-lt v row cell = omega arith
+
+-- what a word shows lies inside the full font
+pub word-inside : (size : ℕ) (text : List ℕ) (word : ℕ) → Inside (wordContent size text word) size
+unfolding wordContent
+word-inside size text word = content-inside _ _ size
 
 -- 64 is the word of no cell
 pub counter-here : (cell : Cell) (word : ℕ) → word < 64 → eqb word (counterWord cell) ≡ atCounter cell word
@@ -33,31 +39,26 @@ graphic-column : (s column : ℕ) → 32 * s + column ≡ 32 * s + 2 * (column /
 graphic-column s column = let h = half-right column in omega arith
 
 -- with everything over the dots
-pub over-dots : (graphic : List ℕ) (look : Look) (row column dots : ℕ)
-    → darkened (look .dark)
-    (overlaid (look .graphic) (getD graphic (32 * ((row + look .view .scroll) % 64) + column) 0)
-    (inverted (getD (look .view .reversed) ((row + look .view .scroll) % 64 / 16) false)
-    (inverted (eqb (16 * ((row + look .view .scroll) % 64 / 16) + (column / 2 + look .view .shift) % 16) (counterWord (look .counter)) && look .blink)
-    (filled (eqb (16 * ((row + look .view .scroll) % 64 / 16) + (column / 2 + look .view .shift) % 16) (counterWord (look .counter)) && (look .cursor && eqb ((row + look .view .scroll) % 64 % 16) 15)) dots))))
-    ≡ byteOver dots graphic look row column
-unfolding byteOver graphicByte shownWord shownRow
-over-dots graphic look row column dots =
-    rw (
-      graphic-column ((row + look .view .scroll) % 64) column,
-      counter-here (look .counter) (16 * ((row + look .view .scroll) % 64 / 16) + (column / 2 + look .view .shift) % 16) (shown-word-lt (look .view) row (column / 2)),
-    )
+module _ (graphic : List ℕ) (look : Look) (row column : ℕ) where
+  abbrev s : ℕ
+  s = shownRow (look .view) row
 
--- the dots of the word that is shown
-pub dots-shown : (e : Fonts) (m : Memories) (v : View) (row column : ℕ)
-    → dotsOf (e .half) (e .full) (m .glyph)
-    (contentOf (getD (m .text) (2 * (16 * ((row + v .scroll) % 64 / 16) + (column / 2 + v .shift) % 16)) 0)
-    (getD (m .text) (2 * (16 * ((row + v .scroll) % 64 / 16) + (column / 2 + v .shift) % 16) + 1) 0) (length (e .full)))
-    ((row + v .scroll) % 64 % 16) (right column)
-    ≡ cellByte e m v row column
-unfolding cellByte wordContent shownWord shownRow
-dots-shown e m v row column = rw (add-zero (2 * (16 * ((row + v .scroll) % 64 / 16) + (column / 2 + v .shift) % 16)))
+  abbrev here : Bool
+  here = eqb (shownWord (look .view) row (column / 2)) (counterWord (look .counter))
 
-pub byte-of-dots : (e : Fonts) (m : Memories) (look : Look) (row column dots : ℕ) → dots ≡ cellByte e m (look .view) row column
-    → byteOver dots (m .graphic) look row column ≡ byteAt e m look row column
-unfolding byteAt
-byte-of-dots e m look row column dots h = rw h
+  pub over-dots : (dots : ℕ)
+      → (if look .dark then 0x00
+      else overlaid (look .graphic) (getD graphic (32 * s + column) 0)
+      (inverted (getD (look .view .reversed) (s / 16) false) (inverted (here && look .blink) (filled (here && (look .cursor && eqb (s % 16) 15)) dots))))
+      ≡ byteOver dots graphic look row column
+  unfolding byteOver graphicByte
+  over-dots dots = rw (graphic-column s column, counter-here (look .counter) (shownWord (look .view) row (column / 2)) (shown-word-lt (look .view) row (column / 2)))
+
+-- and over the dots of the word that is shown
+pub over-shown : (e : Fonts) (m : Memories) (look : Look) (row column : ℕ)
+    → byteOver
+    (dotsOf (e .half) (e .full) (m .glyph) (wordContent (length (e .full)) (m .text) (shownWord (look .view) row (column / 2))) (shownRow (look .view) row % 16) (right column))
+    (m .graphic) look row column
+    ≡ byteAt e m look row column
+unfolding byteAt cellByte
+over-shown e m look row column = refl

@@ -23,8 +23,8 @@ use Rattle.base.proofs.Copies.{one-further, not-yet}
 use Rattle.picture.specs.declared.Look.{Look}
 use Rattle.controller.specs.Memories.{Memories, half}
 use Rattle.controller.specs.Glass.{shownRow, shownWord}
-use Rattle.picture.specs.Picture.{Fonts, right, cellByte, graphicByte, filled, inverted, overlaid, darkened, byteOver, byteAt, wide, picture}
-use Rattle.picture.specs.Tiles.{counterWord, wordDots, lineWord, tileByte, byTile, fromTiles, inRows, bandEnd, shownBy, pairBy}
+use Rattle.picture.specs.Picture.{Fonts, right, cellByte, graphicByte, filled, inverted, overlaid, byteOver, byteAt, wide, picture}
+use Rattle.picture.specs.Tiles.{counterWord, wordDots, lineWord, tileByte, byTile, fromTiles, inRows, shownBy, pairBy}
 use Rattle.picture.specs.declared.Pair.{Pair}
 use Rattle.picture.proofs.Bytes.{counter-here}
 use Rattle.picture.proofs.Unread.{half-right}
@@ -249,15 +249,8 @@ module _ (e : Fonts) (text glyph : List ℕ) (look : Look) where
         ∙ upto-cong 32 _ _ (λ i l. tile-byte i l)
 
 -- the rows of a band show one line, one after the other
-pub band-bounds : (row s : ℕ) → row < 32 → (row < bandEnd row s) × (bandEnd row s ≤ 32) × (bandEnd row s + s % 16 ≤ row + 16)
-unfolding bandEnd
-band-bounds row s h =
-    either-told (λ (n : ℕ). (row < n) × (n ≤ 32) × (n + s % 16 ≤ row + 16)) (ltb (row + 16 - s % 16) 32)
-    (λ t. let k : row + 16 - s % 16 < 32 = ltb-true _ _ t in (omega arith, omega arith, omega arith))
-    (λ t. let k : 32 ≤ row + 16 - s % 16 = ltb-false _ _ t in (omega arith, omega arith, omega arith))
-
-row-in-band : (scroll row r end : ℕ) → row ≤ r → r < end → end + (row + scroll) % 64 % 16 ≤ row + 16 → (r + scroll) % 64 ≡ (row + scroll) % 64 + (r - row)
-row-in-band scroll row r end h l k = omega arith
+row-in-band : (scroll row r end s : ℕ) → s ≡ (row + scroll) % 64 → row ≤ r → r < end → end + s % 16 ≤ row + 16 → (r + scroll) % 64 ≡ s + (r - row)
+row-in-band scroll row r end s is h l k = omega arith
 
 still-inside : (t end row r : ℕ) → row ≤ r → r < end → end + t ≤ row + 16 → t + (r - row) < 16
 still-inside t end row r h l k = omega arith
@@ -290,8 +283,8 @@ row-lt x = omega arith
 side-lt : (x : ℕ) → x % 2 < 2
 side-lt x = omega arith
 
-pub over-fits : (x row end : ℕ) → row < end → end + x % 64 % 16 ≤ row + 16 → 32 * (x % 64) + 32 * (end - row) ≤ 2048
-over-fits x row end h l = omega arith
+pub over-fits : (s row end : ℕ) → s < 64 → row < end → end + s % 16 ≤ row + 16 → 32 * s + 32 * (end - row) ≤ 2048
+over-fits s row end b h l = omega arith
 
 -- a place of the graphic memory under a band
 graphic-of : (s row i : ℕ) → row ≤ i / 32 → 32 * s + (i - 32 * row) ≡ 32 * (s + (i / 32 - row)) + 2 * (i % 32 / 2) + half (right (i % 32))
@@ -300,7 +293,7 @@ graphic-of s row i h =
     let a : i % 32 ≡ 2 * (i % 32 / 2) + i % 32 % 2 = omega arith in
     omega arith
 
-alight : (d : Bool) (x : ℕ) → d ≡ false → darkened d x ≡ x
+alight : (d : Bool) (x : ℕ) → d ≡ false → (if d then 0x00 else x) ≡ x
 alight d x h = rw h
 
 module _ (e : Fonts) (m : Memories) (look : Look) where
@@ -311,8 +304,8 @@ module _ (e : Fonts) (m : Memories) (look : Look) where
 
   -- a byte of the picture is the tile's, with the graphic over it
   byte-by-tile : (row column : ℕ) → byteAt e m look row column
-      ≡ darkened (look .dark)
-      (overlaid (look .graphic) (graphicByte (m .graphic) (look .view) row column)
+      ≡ (if look .dark then 0x00
+      else overlaid (look .graphic) (graphicByte (m .graphic) (look .view) row column)
       (tileByte e (m .text) (m .glyph) look (shownWord (look .view) row (column / 2)) (2 * (shownRow (look .view) row % 16) + column % 2)))
   unfolding byteAt byteOver cellByte tileByte shownWord
   byte-by-tile row column =
@@ -330,10 +323,7 @@ module _ (e : Fonts) (m : Memories) (look : Look) where
       rw (t, getD-upto 32 (tileByte e (m .text) (m .glyph) look word) j (omega arith), w) (sym (byte-by-tile row column))
 
   module _ (light : look .dark ≡ false) where
-    module _ (row end : ℕ) (some : row < end) (below : end ≤ 32) (one : end + (row + look .view .scroll) % 64 % 16 ≤ row + 16) where
-      abbrev s : ℕ
-      s = (row + look .view .scroll) % 64
-
+    module _ (row end s : ℕ) (is : s ≡ shownRow (look .view) row) (some : row < end) (below : end ≤ 32) (one : end + s % 16 ≤ row + 16) where
       abbrev line : ℕ → ℕ
       line = byTile (λ cell j. tileByte e (m .text) (m .glyph) look (lineWord (look .view .shift) (s / 16) cell) j)
 
@@ -344,7 +334,7 @@ module _ (e : Fonts) (m : Memories) (look : Look) where
       band-byte tiles i t l k =
           let r : row ≤ i / 32 = omega arith in
           let q : i / 32 < end = omega arith in
-          let z : (i / 32 + look .view .scroll) % 64 ≡ s + (i / 32 - row) = row-in-band (look .view .scroll) row (i / 32) end r q one in
+          let z : (i / 32 + look .view .scroll) % 64 ≡ s + (i / 32 - row) = row-in-band (look .view .scroll) row (i / 32) end s is r q one in
           let y = within-line (i / 32 + look .view .scroll) in
           let x : s / 16 ≡ (i / 32 + look .view .scroll) % 64 / 16 = rw z (same-line s (i / 32 - row) (still-inside (s % 16) end row (i / 32) r q one)) in
           let g : 32 * s + (i - 32 * row) ≡ 32 * ((i / 32 + look .view .scroll) % 64) + 2 * (i % 32 / 2) + half (right (i % 32)) = rw z (graphic-of s row i r) in
@@ -380,12 +370,12 @@ pairOf left right = record { left = left; right = right }
 -- the two bytes of a cell, by its tile
 pub pair-shown-by : (tile graphic : List ℕ) (look : Look) (row cell : ℕ)
     → pairOf
-    (darkened (look .dark)
-    (overlaid (look .graphic) (getD graphic (32 * ((row + look .view .scroll) % 64) + 2 * cell) 0) (getD tile (2 * ((row + look .view .scroll) % 64 % 16)) 0)))
-    (darkened (look .dark)
-    (overlaid (look .graphic) (getD graphic (32 * ((row + look .view .scroll) % 64) + 2 * cell + 1) 0) (getD tile (2 * ((row + look .view .scroll) % 64 % 16) + 1) 0)))
+    (if look .dark then 0x00
+    else overlaid (look .graphic) (getD graphic (32 * shownRow (look .view) row + 2 * cell) 0) (getD tile (2 * (shownRow (look .view) row % 16)) 0))
+    (if look .dark then 0x00
+    else overlaid (look .graphic) (getD graphic (32 * shownRow (look .view) row + 2 * cell + 1) 0) (getD tile (2 * (shownRow (look .view) row % 16) + 1) 0))
     ≡ pairBy tile graphic look row cell
-unfolding shownBy graphicByte shownRow
+unfolding shownBy graphicByte
 pair-shown-by tile graphic look row cell =
     let a : 2 * cell / 2 ≡ cell = omega arith in
     let b : 2 * cell % 2 ≡ 0 = omega arith in

@@ -86,21 +86,17 @@ inverted on byte = if on then 0xFF - byte else byte
 abbrev pub overlaid : Bool → ℕ → ℕ → ℕ
 overlaid on dots byte = if on then bitXor byte dots else byte
 
--- all zero
-abbrev pub darkened : Bool → ℕ → ℕ
-darkened on byte = if on then 0x00 else byte
-
 -- byte `column` of row `row` of the glass, where its cell has these dots. Then, in the counter's cell (here), cursor sets glyph row 15 and
 -- blink inverts; then line reverse inverts; then exclusive or with the graphic; all zero where dark
 unfoldable pub byteOver : ℕ → List ℕ → Look → ℕ → ℕ → ℕ
 byteOver dots graphic look row column =
     let s = shownRow (look .view) row in
     let here = atCounter (look .counter) (shownWord (look .view) row (column / 2)) in
-    darkened (look .dark)
-    (overlaid (look .graphic) (graphicByte graphic (look .view) row column)
+    if look .dark then 0x00
+    else overlaid (look .graphic) (graphicByte graphic (look .view) row column)
     (inverted (getD (look .view .reversed) (s / 16) false)
     (inverted (here && look .blink)
-    (filled (here && (look .cursor && eqb (s % 16) 15)) dots))))
+    (filled (here && (look .cursor && eqb (s % 16) 15)) dots)))
 
 -- and as the cell has them
 unfoldable pub byteAt : Fonts → Memories → Look → ℕ → ℕ → ℕ

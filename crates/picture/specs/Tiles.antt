@@ -13,7 +13,7 @@ use Rattle.controller.specs.Glass.{shownRow}
 use Rattle.glyph.specs.Tiles.{tileDots}
 use Rattle.picture.specs.declared.Look.{Look}
 use Rattle.picture.specs.declared.Pair.{Pair}
-use Rattle.picture.specs.Picture.{Fonts, wordContent, graphicByte, atCounter, filled, inverted, overlaid, darkened}
+use Rattle.picture.specs.Picture.{Fonts, wordContent, graphicByte, atCounter, filled, inverted, overlaid}
 
 -- the counter's word, or 64, which no cell shows
 abbrev pub counterWord : Cell → ℕ
@@ -54,8 +54,8 @@ inRows first end = rows first end (λ r c. true)
 -- byte `column` of row `row` of the glass, by the tile of its cell
 unfoldable pub shownBy : List ℕ → List ℕ → Look → ℕ → ℕ → ℕ
 shownBy tile graphic look row column =
-    darkened (look .dark)
-    (overlaid (look .graphic) (graphicByte graphic (look .view) row column) (getD tile (2 * (shownRow (look .view) row % 16) + column % 2) 0))
+    if look .dark then 0x00
+    else overlaid (look .graphic) (graphicByte graphic (look .view) row column) (getD tile (2 * (shownRow (look .view) row % 16) + column % 2) 0)
 
 -- one row of a cell: its two bytes, by the tile; two bytes stored at a place of a frame and at the next; and which bytes of the glass they are
 abbrev pub pairBy : List ℕ → List ℕ → Look → ℕ → ℕ → Pair

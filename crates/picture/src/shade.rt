@@ -3,7 +3,7 @@ use controller::Cell;
 ghost use mathlib.Core.Path.{_≡_};
 ghost use mathlib.Core.Bool.{_&&_, _||_, not};
 ghost use Rattle.base.specs.Choice.{if_then_else_};
-ghost use Rattle.picture.specs.Picture.{filled, inverted, overlaid, darkened};
+ghost use Rattle.picture.specs.Picture.{filled, inverted, overlaid};
 ghost use Rattle.picture.specs.Tiles.{counterWord};
 
 // Both flags, as a function, so that the caller has no branch to prove.
@@ -58,7 +58,7 @@ pub(crate) fn mark(cursor: bool, blink: bool, byte: u8) -> u8
 
 // A byte as it shows: with the graphic over it, or nothing in the dark.
 pub(crate) fn lit(dark: bool, graphic: bool, dots: u8, byte: u8) -> u8
-    ensures { λ r. ⌜ r ≡ darkened dark (overlaid graphic dots byte) ⌝ }
+    ensures { λ r. ⌜ r ≡ (if dark then 0x00 else overlaid graphic dots byte) ⌝ }
 {
     if dark {
         return 0x00;

@@ -4,7 +4,8 @@ use crate::Pair;
 use crate::shade::both;
 use crate::shade::counter_word;
 use crate::shade::lit;
-use glyph::lookup::content;
+use crate::shown::shown_row;
+use crate::shown::word_content;
 use glyph::tile::lay;
 ghost use mathlib.Core.Path.{_≡_};
 ghost use mathlib.Core.Bool.{_&&_, _||_};
@@ -29,8 +30,7 @@ fn lay_word(
     requires { ⌜ (word < 64) × (to + 32 ≤ length (now tiles)) × (length (now half) ≡ 2048) ⌝ }
     ensures { λ _. ⌜ now (tiles .exit) ≡ painted (between to (to + 32) everywhere) (λ i. wordDots (fonts half full) (now (text .entry)) (now (glyph .entry)) word (i - to)) (now (tiles .entry)) ⌝ }
 {
-    let at = 2 * (word as usize);
-    let shown = content(text[at], text[at + 1], full.len());
+    let shown = word_content(text, word, full.len());
     lay(shown, tiles, to, glyph, half, full);
 }
 
@@ -143,7 +143,7 @@ pub fn tile_pair(tile: &[u8], graphic: &[u8; 2048], look: Look, row: u32, cell: 
     requires { ⌜ (row < 32) × (cell < 16) × (length (now tile) ≡ 32) ⌝ }
     ensures { λ r. ⌜ r ≡ pairBy (now (tile .entry)) (now (graphic .entry)) look row cell ⌝ }
 {
-    let s = (row + look.view.scroll as u32) % 64;
+    let s = shown_row(look.view, row);
     let at = 2 * ((s % 16) as usize);
     let place = 32 * (s as usize) + 2 * (cell as usize);
     Pair {

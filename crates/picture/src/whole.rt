@@ -1,5 +1,6 @@
 // The whole picture: band by band, each the rows of the glass that show one line of text. A line's cells are looked up once.
 use crate::Look;
+use crate::shown::shown_row;
 use crate::tiles::lay_line;
 ghost use mathlib.Core.Path.{_≡_};
 ghost use mathlib.Core.Bool.{false};
@@ -80,6 +81,7 @@ fn overlay_if(graphic: &[u8; 2048], from: usize, frame: &mut [u8], to: usize, co
 // The row after those that show the same line as row `row`, which shows memory row s.
 fn band_end(row: u32, s: u32) -> u32
     requires { ⌜ row < 32 ⌝ }
+    ensures within { λ r. ⌜ (row < r) × (r ≤ 32) × (r + s % 16 ≤ row + 16) ⌝ }
     ensures { λ r. ⌜ r ≡ bandEnd row s ⌝ }
 {
     let end = row + 16 - s % 16;
@@ -102,7 +104,7 @@ fn paint_band(
     ensures { λ r. ⌜ now (frame .exit) ≡ paintedOn wide (inRows row r) (byteAt (fonts half full) (before text glyph graphic) look) (now (frame .entry)) ⌝ }
 {
     let scroll = look.view.scroll as u32;
-    let s = (row + scroll) % 64;
+    let s = shown_row(look.view, row);
     let end = band_end(row, s);
     let mut tiles = [0u8; 512];
     lay_line(text, glyph, look, s / 16, &mut tiles, half, full);
