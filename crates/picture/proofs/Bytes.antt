@@ -13,6 +13,7 @@ use Rattle.controller.specs.declared.Cell.the-variants.{Nowhere, Word}
 use Rattle.controller.specs.declared.View.{View}
 use Rattle.controller.specs.Memories.{Memories, half}
 use Rattle.controller.specs.Glass.{shownRow, shownWord}
+use Rattle.glyph.specs.declared.Content.{Content}
 use Rattle.glyph.specs.Dots.{dotsOf}
 use Rattle.glyph.specs.Tiles.{Inside}
 use Rattle.picture.specs.declared.Look.{Look}
@@ -38,27 +39,38 @@ counter-here (Word counter) word h = refl
 graphic-column : (s column : ℕ) → 32 * s + column ≡ 32 * s + 2 * (column / 2) + half (right column)
 graphic-column s column = let h = half-right column in omega arith
 
--- with everything over the dots
-module _ (graphic : List ℕ) (look : Look) (row column : ℕ) where
-  abbrev s : ℕ
-  s = shownRow (look .view) row
-
-  abbrev here : Bool
-  here = eqb (shownWord (look .view) row (column / 2)) (counterWord (look .counter))
-
-  pub over-dots : (dots : ℕ)
-      → (if look .dark then 0x00
-      else overlaid (look .graphic) (getD graphic (32 * s + column) 0)
-      (inverted (getD (look .view .reversed) (s / 16) false) (inverted (here && look .blink) (filled (here && (look .cursor && eqb (s % 16) 15)) dots))))
-      ≡ byteOver dots graphic look row column
+-- with everything over the dots, step by step
+module _ (look : Look) (row column : ℕ) where
+  pub over-dots : (graphic : List ℕ) (s word counter dots marked lined r : ℕ) (cursor : Bool)
+      → s ≡ shownRow (look .view) row
+      → word ≡ shownWord (look .view) row (column / 2)
+      → counter ≡ counterWord (look .counter)
+      → cursor ≡ (look .cursor && eqb (s % 16) 15)
+      → marked ≡ inverted (eqb word counter && look .blink) (filled (eqb word counter && cursor) dots)
+      → lined ≡ inverted (getD (look .view .reversed) (s / 16) false) marked
+      → r ≡ (if look .dark then 0x00 else overlaid (look .graphic) (getD graphic (32 * s + column) 0) lined)
+      → r ≡ byteOver dots graphic look row column
   unfolding byteOver graphicByte
-  over-dots dots = rw (graphic-column s column, counter-here (look .counter) (shownWord (look .view) row (column / 2)) (shown-word-lt (look .view) row (column / 2)))
+  over-dots graphic s word counter dots marked lined r cursor is-s is-word is-counter is-cursor is-marked is-lined is =
+      rw (
+        is,
+        is-lined,
+        is-marked,
+        is-cursor,
+        is-counter,
+        is-word,
+        is-s,
+        graphic-column (shownRow (look .view) row) column,
+        counter-here (look .counter) (shownWord (look .view) row (column / 2)) (shown-word-lt (look .view) row (column / 2)),
+      )
 
--- and over the dots of the word that is shown
-pub over-shown : (e : Fonts) (m : Memories) (look : Look) (row column : ℕ)
-    → byteOver
-    (dotsOf (e .half) (e .full) (m .glyph) (wordContent (length (e .full)) (m .text) (shownWord (look .view) row (column / 2))) (shownRow (look .view) row % 16) (right column))
-    (m .graphic) look row column
-    ≡ byteAt e m look row column
-unfolding byteAt cellByte
-over-shown e m look row column = refl
+  -- over the dots of the word that is shown
+  pub over-shown : (e : Fonts) (m : Memories) (word y dots r : ℕ) (shown : Content)
+      → word ≡ shownWord (look .view) row (column / 2)
+      → shown ≡ wordContent (length (e .full)) (m .text) word
+      → y ≡ shownRow (look .view) row
+      → dots ≡ dotsOf (e .half) (e .full) (m .glyph) shown (y % 16) (right column)
+      → r ≡ byteOver dots (m .graphic) look row column
+      → r ≡ byteAt e m look row column
+  unfolding byteAt cellByte
+  over-shown e m word y dots r shown is-word is-shown is-y is-dots is = rw (is, is-dots, is-y, is-shown, is-word)

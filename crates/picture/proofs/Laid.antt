@@ -24,7 +24,7 @@ use Rattle.picture.specs.declared.Look.{Look}
 use Rattle.controller.specs.Memories.{Memories, half}
 use Rattle.controller.specs.Glass.{shownRow, shownWord}
 use Rattle.picture.specs.Picture.{Fonts, right, cellByte, graphicByte, filled, inverted, overlaid, byteOver, byteAt, wide, picture}
-use Rattle.picture.specs.Tiles.{counterWord, wordDots, lineWord, tileByte, byTile, fromTiles, inRows, shownBy, pairBy}
+use Rattle.picture.specs.Tiles.{counterWord, wordDots, lineWord, counterTile, underlined, turned, tileByte, byTile, fromTiles, inRows, shownBy, pairBy}
 use Rattle.picture.specs.declared.Pair.{Pair}
 use Rattle.picture.proofs.Bytes.{counter-here}
 use Rattle.picture.proofs.Unread.{half-right}
@@ -35,31 +35,37 @@ inverted-upto P f n =
     painted-upto P (λ i. 0xFF - getD (upto n f) i 0) f n
     ∙ upto-cong n _ _ (λ i l. ap (λ (x : ℕ). if P i then 0xFF - x else f i) (getD-upto n f i l))
 
+-- stage over stage
+pub stages : (cursor blink reverse : Bool) (at end : ℕ) (t u v w : List ℕ)
+    → u ≡ underlined cursor at t
+    → v ≡ turned blink at (at + 32) u
+    → w ≡ turned reverse 0 end v
+    → w ≡ turned reverse 0 end (turned blink at (at + 32) (underlined cursor at t))
+stages cursor blink reverse at end t u v w a b c = rw (c, b, a)
+
 -- marked and reversed
-pub marked : (n : ℕ) (f : ℕ → ℕ) (P Q R : ℕ → Bool) (t u v w : List ℕ)
-    → t ≡ upto n f
-    → u ≡ painted P (λ i. 0xFF) t
-    → v ≡ painted Q (λ i. 0xFF - getD u i 0) u
-    → w ≡ painted R (λ i. 0xFF - getD v i 0) v
-    → w ≡ upto n (λ i. inverted (R i) (inverted (Q i) (filled (P i) (f i))))
-marked n f P Q R t u v w a b c d =
-    let first : u ≡ upto n (λ i. filled (P i) (f i)) = b ∙ ap (painted P (λ i. 0xFF)) a ∙ painted-upto P (λ i. 0xFF) f n in
-    let second : v ≡ upto n (λ i. inverted (Q i) (filled (P i) (f i))) = (rw first at c) ∙ inverted-upto Q (λ i. filled (P i) (f i)) n in
-    (rw second at d) ∙ inverted-upto R (λ i. inverted (Q i) (filled (P i) (f i))) n
+marked : (n : ℕ) (f : ℕ → ℕ) (P Q R : ℕ → Bool) → (
+    let u = painted P (λ i. 0xFF) (upto n f) in
+    let v = painted Q (λ i. 0xFF - getD u i 0) u in
+    painted R (λ i. 0xFF - getD v i 0) v) ≡ upto n (λ i. inverted (R i) (inverted (Q i) (filled (P i) (f i))))
+marked n f P Q R =
+    rw (painted-upto P (λ i. 0xFF) f n, inverted-upto Q (λ i. filled (P i) (f i)) n) (inverted-upto R (λ i. inverted (Q i) (filled (P i) (f i))) n)
 
 -- one cell further: its tile begins at a multiple of 32
 pub words-turn : (d : ℕ → ℕ → ℕ) (cell : ℕ) (f g h : List ℕ)
     → g ≡ painted (between 0 (32 * cell) everywhere) (byTile d) f
     → h ≡ painted (between (32 * cell) (32 * cell + 32) everywhere) (λ i. d cell (i - 32 * cell)) g
-    → h ≡ painted (between 0 (32 * (cell + 1)) everywhere) (byTile d) f
+    → (length h ≡ length g) × (h ≡ painted (between 0 (32 * (cell + 1)) everywhere) (byTile d) f)
 words-turn d cell f g h c e =
-    let next : 32 * (cell + 1) ≡ 32 * cell + 32 = omega arith in
-    rw next (paint-step everywhere (byTile d) f g h 0 (32 * cell) (32 * cell + 32) (omega arith) (omega arith) c
-    (e ∙ painted-cong _ _ _ (byTile d) g (λ i l. refl)
-    (λ i l t. let q = in-between (32 * cell) (32 * cell + 32) everywhere i t in
-    let a : cell ≡ i / 32 = omega arith in
-    let b : i - 32 * cell ≡ i % 32 = omega arith in
-    ap₂ d a b)))
+    let next : 32 * (cell + 1) ≡ 32 * cell + 32 = omega arith in (
+      as-long _ _ g h e,
+      rw next (paint-step everywhere (byTile d) f g h 0 (32 * cell) (32 * cell + 32) (omega arith) (omega arith) c
+          (e ∙ painted-cong _ _ _ (byTile d) g (λ i l. refl)
+          (λ i l t. let q = in-between (32 * cell) (32 * cell + 32) everywhere i t in
+          let a : cell ≡ i / 32 = omega arith in
+          let b : i - 32 * cell ≡ i % 32 = omega arith in
+          ap₂ d a b))),
+    )
 
 -- the two bytes of a cell that a row takes
 pub taken-left : (tiles : List ℕ) (y row cell : ℕ) → cell < 16 → getD tiles (32 * cell + 2 * y) 0 ≡ fromTiles tiles y (32 * row + 2 * cell)
@@ -171,21 +177,21 @@ module _ (e : Fonts) (text glyph : List ℕ) (look : Look) where
   by-counter word j here l e = rw (← counter-here (look .counter) word l, e)
 
   module _ (line : ℕ) (shifts : look .view .shift < 256) (lines : line < 4) where
-    abbrev at : ℕ
-    at = 32 * ((counterWord (look .counter) % 16 + 256 - look .view .shift) % 16)
+    abbrev start : ℕ
+    start = counterTile (counterWord (look .counter)) (look .view .shift)
 
     abbrev here : Bool
     here = eqb (counterWord (look .counter) / 16) line
 
     line-byte : (i : ℕ) → i < 512
         → inverted (getD (look .view .reversed) line false && between 0 512 everywhere i)
-        (inverted ((here && look .blink) && between at (at + 32) everywhere i)
-        (filled ((here && look .cursor) && (eqb i (at + 30) || eqb i (at + 30 + 1)))
+        (inverted ((here && look .blink) && between start (start + 32) everywhere i)
+        (filled ((here && look .cursor) && (eqb i (start + 30) || eqb i (start + 30 + 1)))
         (wordDots e text glyph (lineWord (look .view .shift) line (i / 32)) (i % 32))))
         ≡ tileByte e text glyph look (lineWord (look .view .shift) line (i / 32)) (i % 32)
     line-byte i l =
         let word = lineWord (look .view .shift) line (i / 32) in
-        let there = between at (at + 32) everywhere i in
+        let there = between start (start + 32) everywhere i in
         let q : word / 16 ≡ line = omega arith in
         sym (by-counter word (i % 32) (here && there) (omega arith) (counter-on-line (look .view .shift) line (counterWord (look .counter)) i shifts l)
         ∙ rw (
@@ -197,17 +203,19 @@ module _ (e : Fonts) (text glyph : List ℕ) (look : Look) where
           last-row ((counterWord (look .counter) % 16 + 256 - look .view .shift) % 16) i,
         ))
 
-    pub line-marked : (t u v w : List ℕ)
+    pub line-marked : (t w : List ℕ) (at counter : ℕ) (cursor blink : Bool)
         → t ≡ upto 512 (byTile (λ cell j. wordDots e text glyph (lineWord (look .view .shift) line cell) j))
-        → u ≡ painted (λ i. (here && look .cursor) && (eqb i (at + 30) || eqb i (at + 30 + 1))) (λ i. 0xFF) t
-        → v ≡ painted (λ i. (here && look .blink) && between at (at + 32) everywhere i) (λ i. 0xFF - getD u i 0) u
-        → w ≡ painted (λ i. getD (look .view .reversed) line false && between 0 512 everywhere i) (λ i. 0xFF - getD v i 0) v
+        → counter ≡ counterWord (look .counter)
+        → at ≡ counterTile counter (look .view .shift)
+        → cursor ≡ (eqb (counter / 16) line && look .cursor)
+        → blink ≡ (eqb (counter / 16) line && look .blink)
+        → w ≡ turned (getD (look .view .reversed) line false) 0 512 (turned blink at (at + 32) (underlined cursor at t))
         → w ≡ upto 512 (byTile (λ cell j. tileByte e text glyph look (lineWord (look .view .shift) line cell) j))
-    line-marked t u v w a b d g =
-        marked 512 (byTile (λ cell j. wordDots e text glyph (lineWord (look .view .shift) line cell) j))
-        (λ i. (here && look .cursor) && (eqb i (at + 30) || eqb i (at + 30 + 1)))
-        (λ i. (here && look .blink) && between at (at + 32) everywhere i)
-        (λ i. getD (look .view .reversed) line false && between 0 512 everywhere i) t u v w a b d g
+    line-marked t w at counter cursor blink laid is-counter is-at is-cursor is-blink is =
+        (rw (is-cursor, is-blink, is-at, is-counter, laid) at is)
+        ∙ marked 512 _ (λ i. (here && look .cursor) && (eqb i (start + 30) || eqb i (start + 30 + 1)))
+        (λ i. (here && look .blink) && between start (start + 32) everywhere i)
+        (λ i. getD (look .view .reversed) line false && between 0 512 everywhere i)
         ∙ upto-cong 512 _ _ (λ i l. line-byte i l)
 
   -- one tile
@@ -235,17 +243,18 @@ module _ (e : Fonts) (text glyph : List ℕ) (look : Look) where
           and-true marks,
         ))
 
-    pub tile-marked : (t u v w : List ℕ)
+    pub tile-marked : (t w : List ℕ) (counter : ℕ) (cursor blink : Bool)
         → t ≡ upto 32 (wordDots e text glyph word)
-        → u ≡ painted (λ i. (marks && look .cursor) && (eqb i 30 || eqb i 31)) (λ i. 0xFF) t
-        → v ≡ painted (λ i. (marks && look .blink) && between 0 32 everywhere i) (λ i. 0xFF - getD u i 0) u
-        → w ≡ painted (λ i. getD (look .view .reversed) (word / 16) false && between 0 32 everywhere i) (λ i. 0xFF - getD v i 0) v
+        → counter ≡ counterWord (look .counter)
+        → cursor ≡ (eqb word counter && look .cursor)
+        → blink ≡ (eqb word counter && look .blink)
+        → w ≡ turned (getD (look .view .reversed) (word / 16) false) 0 32 (turned blink 0 32 (underlined cursor 0 t))
         → w ≡ upto 32 (tileByte e text glyph look word)
-    tile-marked t u v w a b d g =
-        marked 32 (wordDots e text glyph word)
-        (λ i. (marks && look .cursor) && (eqb i 30 || eqb i 31))
+    tile-marked t w counter cursor blink laid is-counter is-cursor is-blink is =
+        (rw (is-cursor, is-blink, is-counter, laid) at is)
+        ∙ marked 32 _ (λ i. (marks && look .cursor) && (eqb i 30 || eqb i 31))
         (λ i. (marks && look .blink) && between 0 32 everywhere i)
-        (λ i. getD (look .view .reversed) (word / 16) false && between 0 32 everywhere i) t u v w a b d g
+        (λ i. getD (look .view .reversed) (word / 16) false && between 0 32 everywhere i)
         ∙ upto-cong 32 _ _ (λ i l. tile-byte i l)
 
 -- the rows of a band show one line, one after the other

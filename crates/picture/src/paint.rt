@@ -34,8 +34,8 @@ pub fn byte_over(graphic: &[u8; 2048], look: Look, row: u32, column: u32, dots: 
     let s = shown_row(look.view, row);
     let cell = look.counter;
     let here = shown_word(look.view, row, column / 2) == counter_word(cell);
-    let cursor = both(here, both(look.cursor, s % 16 == 15));
-    let marked = mark(cursor, both(here, look.blink), dots);
+    let cursor = both(look.cursor, s % 16 == 15);
+    let marked = mark(here, cursor, look.blink, dots);
     let reversed = look.view.reversed;
     let line = s / 16;
     let place = 32 * s + column;

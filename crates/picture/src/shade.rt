@@ -49,11 +49,11 @@ pub(crate) fn overlay(on: bool, dots: u8, byte: u8) -> u8
     byte ^ (dots & mask(on))
 }
 
-// The cursor, and blink over it.
-pub(crate) fn mark(cursor: bool, blink: bool, byte: u8) -> u8
-    ensures { λ r. ⌜ r ≡ inverted blink (filled cursor byte) ⌝ }
+// In the counter's cell (`here`) the cursor, and blink over it.
+pub(crate) fn mark(here: bool, cursor: bool, blink: bool, byte: u8) -> u8
+    ensures { λ r. ⌜ r ≡ inverted (here && blink) (filled (here && cursor) byte) ⌝ }
 {
-    (byte | mask(cursor)) ^ mask(blink)
+    (byte | mask(both(here, cursor))) ^ mask(both(here, blink))
 }
 
 // A byte as it shows: with the graphic over it, or nothing in the dark.

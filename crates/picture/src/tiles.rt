@@ -15,7 +15,7 @@ ghost use lib.Dec.{eqb};
 ghost use Rattle.base.specs.Lists.{upto};
 ghost use Rattle.base.specs.Painting.{painted, everywhere, between};
 ghost use Rattle.picture.specs.Picture.{fonts};
-ghost use Rattle.picture.specs.Tiles.{wordDots, lineWord, tileByte, byTile, pairBy};
+ghost use Rattle.picture.specs.Tiles.{wordDots, lineWord, counterTile, tileByte, byTile, underlined, turned, pairBy};
 
 // The word's dots, as the tile that begins at `to`.
 fn lay_word(
@@ -59,7 +59,7 @@ fn lay_words(
 // Cursor sets glyph row 15: the last two bytes of the tile that begins at `at`.
 fn fill_cursor(tiles: &mut [u8], at: usize, on: bool)
     requires { ⌜ at + 32 ≤ length (now tiles) ⌝ }
-    ensures { λ _. ⌜ now (tiles .exit) ≡ painted (λ i. on && (eqb i (at + 30) || eqb i (at + 30 + 1))) (λ i. 0xFF) (now (tiles .entry)) ⌝ }
+    ensures { λ _. ⌜ now (tiles .exit) ≡ underlined on at (now (tiles .entry)) ⌝ }
 {
     if on {
         let last = at + 30;
@@ -83,11 +83,29 @@ fn invert(tiles: &mut [u8], from: u32, to: u32)
 // Blink and line reverse invert.
 fn invert_if(tiles: &mut [u8], from: u32, to: u32, on: bool)
     requires { ⌜ (from ≤ to) × (to ≤ length (now tiles)) ⌝ }
-    ensures { λ _. ⌜ now (tiles .exit) ≡ painted (λ i. on && between from to everywhere i) (λ i. 0xFF - getD (now (tiles .entry)) i 0) (now (tiles .entry)) ⌝ }
+    ensures { λ _. ⌜ now (tiles .exit) ≡ turned on from to (now (tiles .entry)) ⌝ }
 {
     if on {
         invert(tiles, from, to);
     }
+}
+
+// The cursor and blink over the tile that begins at `at`, then line reverse over all tiles up to `end`.
+fn mark(tiles: &mut [u8], at: u32, end: u32, cursor: bool, blink: bool, reverse: bool)
+    requires { ⌜ (at + 32 ≤ end) × (end ≤ length (now tiles)) ⌝ }
+    ensures { λ _. ⌜ now (tiles .exit) ≡ turned reverse 0 end (turned blink at (at + 32) (underlined cursor at (now (tiles .entry)))) ⌝ }
+{
+    fill_cursor(tiles, at as usize, cursor);
+    invert_if(tiles, at, at + 32, blink);
+    invert_if(tiles, 0, end, reverse);
+}
+
+// Where the tile of the counter's word begins among those of its line.
+fn counter_tile(counter: u32, shift: u32) -> u32
+    requires { ⌜ shift < 256 ⌝ }
+    ensures { λ r. ⌜ r ≡ counterTile counter shift ⌝ }
+{
+    32 * ((counter % 16 + 256 - shift) % 16)
 }
 
 // All sixteen tiles of a line, with everything over them but the graphic.
@@ -107,12 +125,17 @@ pub(crate) fn lay_line(
     let cell = look.counter;
     let counter = counter_word(cell);
     let here = counter / 16 == line;
-    let at = 32 * ((counter % 16 + 256 - shift) % 16);
+    let at = counter_tile(counter, shift);
     let reversed = look.view.reversed;
     lay_words(text, glyph, shift, line, tiles, half, full);
-    fill_cursor(tiles, at as usize, both(here, look.cursor));
-    invert_if(tiles, at, at + 32, both(here, look.blink));
-    invert_if(tiles, 0, 512, reversed[line as usize]);
+    mark(
+        tiles,
+        at,
+        512,
+        both(here, look.cursor),
+        both(here, look.blink),
+        reversed[line as usize],
+    );
 }
 
 // The tile of one word, likewise.
@@ -133,9 +156,14 @@ pub fn lay_tile(
     let reversed = look.view.reversed;
     let line = word / 16;
     lay_word(text, glyph, word, tile, 0, half, full);
-    fill_cursor(tile, 0, both(here, look.cursor));
-    invert_if(tile, 0, 32, both(here, look.blink));
-    invert_if(tile, 0, 32, reversed[line as usize]);
+    mark(
+        tile,
+        0,
+        32,
+        both(here, look.cursor),
+        both(here, look.blink),
+        reversed[line as usize],
+    );
 }
 
 // The two bytes that a cell's tile shows on a row of the glass.

@@ -16,5 +16,5 @@ byte-at-spec =
     (λ c κs. (search needs, search needs, rw (c .before .word-content .ensures) (word-inside _ _ _)))
     (λ c κs. search needs)
     (λ c. let shown = c .before .before .before in let a = shown .before .before .before .before .args in
-    rw (c .byte-over .ensures, c .before .dot-byte .ensures, shown .word-content .ensures, shown .before .shown-word .ensures .1, c .before .before .shown-row .ensures .1)
-    (over-shown (record { half = a .half .now; full = a .full .now }) (memories (a .text .now) (a .glyph .now) (a .graphic .now)) (a .look) (a .row) (a .column))))
+    over-shown (a .look) (a .row) (a .column) (record { half = a .half .now; full = a .full .now }) (memories (a .text .now) (a .glyph .now) (a .graphic .now)) _ _ _ _ _
+    (shown .before .shown-word .ensures .1) (shown .word-content .ensures) (c .before .before .shown-row .ensures .1) (c .before .dot-byte .ensures) (c .byte-over .ensures)))

@@ -13,8 +13,6 @@ byte-over-spec =
     (λ c κs. search needs)
     (λ c κs. search needs)
     (λ c κs. search needs)
-    (λ c κs. search needs)
-    (λ c κs. search needs)
     (λ c. search needs)
     (λ c. search needs)
     (λ c. search needs)
@@ -23,6 +21,6 @@ byte-over-spec =
     (λ c. search needs)
     (λ c κs. search needs)
     (λ c κs. search needs)
-    (λ c. let marks = c .before .before .before .before in let here = marks .before .before .before .before in let a = here .before .before .before .args in
-    rw (c .lit .ensures, c .before .invert .ensures, marks .mark .ensures, marks .before .both3 .ensures, marks .before .before .both2 .ensures, marks .before .before .before .both .ensures, here .counter-word .ensures, here .before .shown-word .ensures .1, here .before .before .shown-row .ensures .1)
-    (over-dots (a .graphic .now) (a .look) (a .row) (a .column) (a .dots))))
+    (λ c. let marks = c .before .before .before .before in let here = marks .before .before in let a = here .before .before .before .args in
+    over-dots (a .look) (a .row) (a .column) (a .graphic .now) _ _ _ (a .dots) _ _ _ _ (here .before .before .shown-row .ensures .1) (here .before .shown-word .ensures .1) (here .counter-word .ensures)
+    (marks .before .both .ensures) (marks .mark .ensures) (c .before .invert .ensures) (c .lit .ensures)))
