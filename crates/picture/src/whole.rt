@@ -27,8 +27,8 @@ fn clear(frame: &mut [u8])
 }
 
 // Row y of each tile of the line goes to row `row` of the glass.
-fn hand_row(tiles: &[u8], y: u32, row: u32, frame: &mut [u8])
-    requires { ⌜ (y < 16) × (row < 32) × (length (now tiles) ≡ 512) × (length (now frame) ≡ 1024) ⌝ }
+fn hand_row(tiles: &[u8; 512], y: u32, row: u32, frame: &mut [u8])
+    requires { ⌜ (y < 16) × (row < 32) × (length (now frame) ≡ 1024) ⌝ }
     ensures { λ _. ⌜ now (frame .exit) ≡ painted (between (32 * row) (32 * row + 32) everywhere) (fromTiles (now (tiles .entry)) y) (now (frame .entry)) ⌝ }
 {
     let mut cell: u32 = 0;
@@ -45,8 +45,8 @@ fn hand_row(tiles: &[u8], y: u32, row: u32, frame: &mut [u8])
 }
 
 // The rows of the glass from `row` up to `end` show the line's rows from y on.
-fn hand_out(tiles: &[u8], scroll: u32, row: u32, end: u32, frame: &mut [u8])
-    requires { ⌜ (scroll < 256) × (row ≤ end) × (end ≤ 32) × (length (now tiles) ≡ 512) × (length (now frame) ≡ 1024) ⌝ }
+fn hand_out(tiles: &[u8; 512], scroll: u32, row: u32, end: u32, frame: &mut [u8])
+    requires { ⌜ (scroll < 256) × (row ≤ end) × (end ≤ 32) × (length (now frame) ≡ 1024) ⌝ }
     ensures { λ _. ⌜ now (frame .exit) ≡ painted (between (32 * row) (32 * end) everywhere) (λ i. fromTiles (now (tiles .entry)) ((i / 32 + scroll) % 16) i) (now (frame .entry)) ⌝ }
 {
     let mut r = row;

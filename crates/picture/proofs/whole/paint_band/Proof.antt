@@ -2,10 +2,7 @@
 use borrow.Author.Needs.{needs}
 use native.Mathlib.Omega.{arith}
 use Prim.Native.Nat.{_-_}
-use lib.ListN.{length}
-use mathlib.Core.Path.{ap, _∙_}
 use Rattle.controller.specs.Memories.{memories}
-use Rattle.base.proofs.Lists.{length-upto}
 use Rattle.base.proofs.Painting.{as-long}
 use Rattle.picture.proofs.Laid.{over-fits, band-painted}
 use Rattle.picture.proofs.whole.paint_band.Statement.{statement}
@@ -20,9 +17,8 @@ paint-band-spec =
     (λ c κs. search needs)
     (λ c. search needs)
     (λ c κs. search needs)
-    (λ c. search needs)
     (λ c κs. let laid = c .before .before .before in let b = laid .before .before .band-end .ensures .0 in
-    (search needs, omega (arith, b .0), b .1, ap length (laid .lay-line .ensures) ∙ length-upto 512 _, search needs))
+    (search needs, omega (arith, b .0), b .1, search needs))
     (λ c. search needs)
     (λ c. search needs)
     (λ c. search needs)
