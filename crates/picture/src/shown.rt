@@ -8,7 +8,7 @@ ghost use Rattle.controller.specs.Glass.{shownRow, shownWord};
 ghost use Rattle.picture.specs.Picture.{wordContent};
 
 // Memory row s, at a row of the glass.
-pub fn shown_row(view: View, row: u32) -> u32
+pub(crate) fn shown_row(view: View, row: u32) -> u32
     requires { ⌜ row < 32 ⌝ }
     ensures within { λ r. ⌜ r < 64 ⌝ }
     ensures { λ r. ⌜ r ≡ shownRow view row ⌝ }

@@ -167,8 +167,8 @@ pub fn lay_tile(
 }
 
 // The two bytes that a cell's tile shows on a row of the glass.
-pub fn tile_pair(tile: &[u8], graphic: &[u8; 2048], look: Look, row: u32, cell: u32) -> Pair
-    requires { ⌜ (row < 32) × (cell < 16) × (length (now tile) ≡ 32) ⌝ }
+pub fn tile_pair(tile: &[u8; 32], graphic: &[u8; 2048], look: Look, row: u32, cell: u32) -> Pair
+    requires { ⌜ (row < 32) × (cell < 16) ⌝ }
     ensures { λ r. ⌜ r ≡ pairBy (now (tile .entry)) (now (graphic .entry)) look row cell ⌝ }
 {
     let s = shown_row(look.view, row);
