@@ -1,7 +1,7 @@
 -- Single bytes of the picture, as the code finds them.
 use Prim.Native.Nat.{ℕ, _+_, _*_, _/_, _%_, _<_}
 use mathlib.Core.Path.{_≡_, refl}
-use mathlib.Core.Bool.{Bool, false, _&&_}
+use mathlib.Core.Bool.{Bool, true, false, _&&_}
 use mathlib.Core.List.{List}
 use native.Mathlib.Omega.{arith}
 use lib.ListN.{length, getD}
@@ -39,8 +39,12 @@ counter-here (Word counter) word h = refl
 graphic-column : (s column : ℕ) → 32 * s + column ≡ 32 * s + 2 * (column / 2) + half (right column)
 graphic-column s column = let h = half-right column in omega arith
 
--- with everything over the dots, step by step
+-- with everything over the dots, step by step; nothing shows in the dark
 module _ (look : Look) (row column : ℕ) where
+  pub dark-byte : (graphic : List ℕ) (dots : ℕ) → look .dark ≡ true → 0x00 ≡ byteOver dots graphic look row column
+  unfolding byteOver
+  dark-byte graphic dots dark = rw dark
+
   pub over-dots : (graphic : List ℕ) (s word counter dots marked lined r : ℕ) (cursor : Bool)
       → s ≡ shownRow (look .view) row
       → word ≡ shownWord (look .view) row (column / 2)
@@ -48,11 +52,13 @@ module _ (look : Look) (row column : ℕ) where
       → cursor ≡ (look .cursor && eqb (s % 16) 15)
       → marked ≡ inverted (eqb word counter && look .blink) (filled (eqb word counter && cursor) dots)
       → lined ≡ inverted (getD (look .view .reversed) (s / 16) false) marked
-      → r ≡ (if look .dark then 0x00 else overlaid (look .graphic) (getD graphic (32 * s + column) 0) lined)
+      → look .dark ≡ false
+      → r ≡ overlaid (look .graphic) (getD graphic (32 * s + column) 0) lined
       → r ≡ byteOver dots graphic look row column
   unfolding byteOver graphicByte
-  over-dots graphic s word counter dots marked lined r cursor is-s is-word is-counter is-cursor is-marked is-lined is =
+  over-dots graphic s word counter dots marked lined r cursor is-s is-word is-counter is-cursor is-marked is-lined light is =
       rw (
+        light,
         is,
         is-lined,
         is-marked,

@@ -4,8 +4,8 @@ use crate::Pair;
 use crate::shade::both;
 use crate::shade::counter_word;
 use crate::shade::invert;
-use crate::shade::lit;
 use crate::shade::mark;
+use crate::shade::overlay;
 use crate::shown::shown_row;
 use crate::shown::shown_word;
 use crate::shown::word_content;
@@ -31,6 +31,9 @@ pub fn byte_over(graphic: &[u8; 2048], look: Look, row: u32, column: u32, dots: 
     requires { ⌜ (row < 32) × (column < 32) ⌝ }
     ensures { λ r. ⌜ r ≡ byteOver dots (now (graphic .entry)) look row column ⌝ }
 {
+    if look.dark {
+        return 0x00;
+    }
     let s = shown_row(look.view, row);
     let cell = look.counter;
     let here = shown_word(look.view, row, column / 2) == counter_word(cell);
@@ -39,8 +42,7 @@ pub fn byte_over(graphic: &[u8; 2048], look: Look, row: u32, column: u32, dots: 
     let reversed = look.view.reversed;
     let line = s / 16;
     let place = 32 * s + column;
-    lit(
-        look.dark,
+    overlay(
         look.graphic,
         graphic[place as usize],
         invert(reversed[line as usize], marked),
