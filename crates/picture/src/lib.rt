@@ -9,7 +9,7 @@ pub mod looks;
 pub mod paint;
 pub mod refusals;
 mod shade;
-pub mod shown;
+mod shown;
 pub mod tiles;
 pub mod whole;
 

@@ -5,7 +5,6 @@ use controller::named::image;
 use picture::Look;
 use picture::paint::byte_at;
 use picture::paint::byte_over;
-use picture::shown::shown_word;
 ghost use mathlib.Core.Path.{_≡_};
 ghost use Prim.Native.Nat.{_+_, _*_, _%_, _<_};
 ghost use lib.ListN.{length, getD};
@@ -51,7 +50,8 @@ fn paint_if_image(
     requires { ⌜ ((row + look .view .scroll) % 64 % 16 ≡ part .word % 16) × (row < 32) × (cell < 16) × (length (now frame) ≡ 1024) ⌝ }
     ensures { λ r. ⌜ painting r (now (frame .exit)) ≡ paintsOn wide (columns (2 * cell) (2 * cell + 2) (rows row (row + 1) (showsGlyph (look .view) (now (text .entry)) (part .word) (part .low)))) (byteOver (part .dots) (now (graphic .entry)) look) (now (frame .entry)) ⌝ }
 {
-    let shown = shown_word(look.view, row, cell);
+    let s = (row + look.view.scroll as u32) % 64;
+    let shown = 16 * (s / 16) + (cell + look.view.shift as u32) % 16;
     if shows_image(text, shown, part.word / 16) {
         let column = byte_column(cell, part.low);
         let place = 32 * row + column;
