@@ -12,7 +12,7 @@ use Rattle.calls.specs.State.{State, freshState}
 use Rattle.playback.specs.Transcript.{Told, replayedSilently}
 use Rattle.boundary.specs.Report.{stateBytes, lastBytes, report, freshReplay}
 
-module _ (parallel : Bool) (e : Seen) (capture frame state₀ last₀ : List ℕ) (n : ℕ) (is : n ≡ refusalOf (length frame) (length (e .half)) (length (e .full))) where
+module _ (parallel : Bool) (e : Seen) (capture frame state₀ last₀ : List ℕ) (n : ℕ) (is : n ≡ refusalOf (length frame) (length (e .fonts .half)) (length (e .fonts .full))) where
   pub turned-away : n ≢ 0 → report n frame state₀ last₀ ≡ freshReplay parallel e capture frame state₀ last₀
   unfolding freshReplay
   turned-away h = rw (← is, ne-eqb n 0 h)

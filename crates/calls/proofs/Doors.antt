@@ -15,7 +15,7 @@ use Rattle.picture.specs.Refusals.{refusalOf}
 use Rattle.calls.specs.State.{State}
 use Rattle.calls.specs.Calls.{refused, accepted, unlessOther, takenOn, called}
 
-module _ (e : Seen) (s : State) (f : List ℕ) (event : Event) (n : ℕ) (is : n ≡ refusalOf (length f) (length (e .half)) (length (e .full))) where
+module _ (e : Seen) (s : State) (f : List ℕ) (event : Event) (n : ℕ) (is : n ≡ refusalOf (length f) (length (e .fonts .half)) (length (e .fonts .full))) where
   pub refuses : n ≢ 0 → refused s f n ≡ called e s f event
   unfolding called
   refuses h = rw (← is, ne-eqb n 0 h)

@@ -40,7 +40,7 @@ pub of-call :
     → P (called e s frame event)
 unfolding called
 of-call P e s frame event ref acc =
-    either P (eqb (refusalOf (length frame) (length (e .half)) (length (e .full))) 0) (by (takenOn s event)) (ref _)
+    either P (eqb (refusalOf (length frame) (length (e .fonts .half)) (length (e .fonts .full))) 0) (by (takenOn s event)) (ref _)
   where
     by : (t : Taken) → P (unlessOther e s frame t)
     by OtherLink = ref 5

@@ -16,7 +16,7 @@ use Rattle.links.specs.declared.Rest.{Rest}
 use Rattle.links.specs.declared.Taken.{Taken}
 use Rattle.links.specs.declared.Taken.the-variants.{OtherLink, Carries}
 use Rattle.links.specs.Taken.{takenBy, replied}
-use Rattle.picture.specs.Picture.{Seen, fontsOf, lookOf, wide}
+use Rattle.picture.specs.Picture.{Seen, lookOf, wide}
 use Rattle.picture.specs.Refusals.{lentRefusal}
 pub use Rattle.picture.specs.Refusals.{Fits}
 use Rattle.repaint.specs.Repaint.{repainted, countNamed}
@@ -43,7 +43,7 @@ accepted e frame a rest =
       number = 0;
       reply = replied rest (a .done .reply) .reply;
       count = countNamed wide (a .done .control .view) (a .memories .text) (a .done .region);
-      frame = repainted wide (fontsOf e) (a .memories) (lookOf (e .phase) (a .done .control)) (a .done .region) frame;
+      frame = repainted wide (e .fonts) (a .memories) (lookOf (e .phase) (a .done .control)) (a .done .region) frame;
     }
 
 -- refusal 5, checked last; else what reaches the controller is done

@@ -23,7 +23,7 @@ use Rattle.connector.specs.Items.{WholeWrite, Item, write, besideWires, deed, W
 use Rattle.connector.specs.Connector.{Performed, CameAll, Comes, elsewhere, comes, next, preceded, carriedAt, takenAt, eventAt, runs, KeepsDl, Idles}
 use Rattle.connector.proofs.ItemsAct.{items-act, lists-agree}
 use Rattle.picture.specs.declared.Look.{Look}
-use Rattle.picture.specs.Picture.{Fonts, Seen, fontsOf, lookOf, wide}
+use Rattle.picture.specs.Picture.{Fonts, Seen, lookOf, wide}
 use Rattle.repaint.specs.Repaint.{named, repainted, countNamed}
 use Rattle.repaint.proofs.Counts.{count-nothing}
 use Rattle.calls.specs.State.{state}
@@ -46,10 +46,10 @@ none-counted v text = count-nothing v text
 board-idles : (e : Seen) → Idles (board e)
 unfolding performed
 board-idles e b =
-    rw (none-painted (fontsOf e) (b .memories) (lookOf (e .phase) (b .control)) (b .frame))
+    rw (none-painted (e .fonts) (b .memories) (lookOf (e .phase) (b .control)) (b .frame))
 
 -- a painted frame keeps its length
-repainted-fits : (e : Seen) (m : Memories) (look : Look) (r : Region) (frame : List ℕ) → Fits e frame → Fits e (repainted wide (fontsOf e) m look r frame)
+repainted-fits : (e : Seen) (m : Memories) (look : Look) (r : Region) (frame : List ℕ) → Fits e frame → Fits e (repainted wide (e .fonts) m look r frame)
 unfolding repainted
 repainted-fits e m look r frame h = rw (painted-length _ _ frame) h
 

@@ -105,7 +105,7 @@ module _ (e : Seen) (s : State) (frame : List ℕ) (event : Event) (n : ℕ) whe
   bounded-count : countOf (performed (s .memories) (s .control) (reaching (takenOn s event))) ≤ n → called e s frame event .count ≤ n
   unfolding called
   bounded-count h =
-      either (λ (x : Called). x .count ≤ n) (eqb (refusalOf (length frame) (length (e .half)) (length (e .full))) 0)
+      either (λ (x : Called). x .count ≤ n) (eqb (refusalOf (length frame) (length (e .fonts .half)) (length (e .fonts .full))) 0)
       (reached-count (takenOn s event) h) (omega arith)
 
 -- with S = 0 a call that carries out a data transfer names at most 64

@@ -28,7 +28,7 @@ use Rattle.links.specs.Halves as halves
 use Rattle.connector.specs.Items.{WholeWrite, write, deed, SameButBit4, same, functionSets}
 use Rattle.connector.specs.Connector.{act}
 use Rattle.connector.specs.Statements.{Respected}
-use Rattle.picture.specs.Picture.{Seen, byteAt, effectsOf}
+use Rattle.picture.specs.Picture.{Seen, byteAt, byteOver}
 use Rattle.repaint.specs.Repaint.{repainted, named}
 use Rattle.demands.specs.Wires.{Board, countOf, boardAfter, board, withDl}
 
@@ -126,7 +126,7 @@ performed-but-dl m c (Fresh pin) = refl
 
 -- the picture and the named bytes do not look at DL
 boardAfter-but-dl : (e : Seen) (b : Board) (a : Acted) → boardButDl (boardAfter e b a) ≡ boardButDl (boardAfter e b (actedButDl a))
-unfolding repainted named byteAt effectsOf
+unfolding repainted named byteAt byteOver
 boardAfter-but-dl e b a = refl
 
 module _ (e : Seen) where

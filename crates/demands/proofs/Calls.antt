@@ -45,10 +45,10 @@ other-number e s frame (Carries c) = refl
 module _ (e : Seen) (s : State) (frame : List ℕ) (call : Event) where
   pub call-number :
       called e s frame call .number
-      ≡ orOther (ofOtherLink (s .link) call) (refusalOf (length frame) (length (e .half)) (length (e .full)))
+      ≡ orOther (ofOtherLink (s .link) call) (refusalOf (length frame) (length (e .fonts .half)) (length (e .fonts .full)))
   unfolding called
   call-number =
-      by-test (eqb (refusalOf (length frame) (length (e .half)) (length (e .full))) 0)
+      by-test (eqb (refusalOf (length frame) (length (e .fonts .half)) (length (e .fonts .full))) 0)
       (λ t. rw t
       (other-number e s frame (takenOn s call)
       ∙ ap (λ (b : Bool). if b then 5 else 0) (other-taken (s .control .function .dl) (s .link) call)))
@@ -63,10 +63,10 @@ module _ (e : Seen) (s : State) (frame : List ℕ) (call : Event) where
 
 module _ (e : Seen) (m : Memories) (c : Control) (frame : List ℕ) where
   draw-number :
-      drawn e m c frame .number ≡ orOther false (refusalOf (length frame) (length (e .half)) (length (e .full)))
+      drawn e m c frame .number ≡ orOther false (refusalOf (length frame) (length (e .fonts .half)) (length (e .fonts .full)))
   unfolding drawn
   draw-number =
-      by-test (eqb (refusalOf (length frame) (length (e .half)) (length (e .full))) 0) (λ t. rw t) (λ t. rw t)
+      by-test (eqb (refusalOf (length frame) (length (e .fonts .half)) (length (e .fonts .full))) 0) (λ t. rw t) (λ t. rw t)
 
   pub draw-refuses : DrawRefuses e m c frame
   unfolding drawn
@@ -74,7 +74,7 @@ module _ (e : Seen) (m : Memories) (c : Control) (frame : List ℕ) where
       record {
         says = subst (TableSays e frame false) (sym draw-number) (table-says e frame false);
         keeps =
-            by-test (eqb (refusalOf (length frame) (length (e .half)) (length (e .full))) 0)
+            by-test (eqb (refusalOf (length frame) (length (e .fonts .half)) (length (e .fonts .full))) 0)
             (λ t. rw t (λ h. absurd (h refl)))
             (λ t. rw t (λ h. refl));
       }

@@ -19,7 +19,7 @@ use Rattle.deeds.specs.Transfers.{performed}
 use Rattle.events.specs.declared.Event.{Event}
 use Rattle.links.specs.declared.Taken.{Taken}
 use Rattle.links.specs.declared.Taken.the-variants.{OtherLink, Carries}
-use Rattle.picture.specs.Picture.{Seen, fontsOf, lookOf, wide}
+use Rattle.picture.specs.Picture.{Seen, lookOf, wide}
 use Rattle.picture.specs.Refusals.{refusalOf}
 use Rattle.picture.proofs.Wide.{picture-at}
 use Rattle.picture.proofs.Accepted as sizes
@@ -59,7 +59,7 @@ unfolding repainted performed named covers
 taken-shows e s frame OtherLink i l h = refl
 taken-shows e s frame (Carries c) i l h =
     let a = performed (s .memories) (s .control) (c .deed) in
-    rw (picture-at wide (fontsOf e) (a .memories) (lookOf (e .phase) (a .done .control)) i h) (painted-at _ _ frame i (rw l h))
+    rw (picture-at wide (e .fonts) (a .memories) (lookOf (e .phase) (a .done .control)) i h) (painted-at _ _ frame i (rw l h))
 
 -- and of the picture's byte there, where it is not named
 taken-keeps :
@@ -72,9 +72,9 @@ unfolding named
 taken-keeps e s frame OtherLink i v h u = refl
 taken-keeps e s frame (Carries c) i v h u =
     let a = performed (s .memories) (s .control) (c .deed) in
-    picture-at wide (fontsOf e) (a .memories) (lookOf (e .phase) (a .done .control)) i h
+    picture-at wide (e .fonts) (a .memories) (lookOf (e .phase) (a .done .control)) i h
     ∙ performed-unnamed e (s .memories) (s .control) (v .control) (c .deed) (i / 32) (i % 32) (omega arith) u
-    ∙ sym (picture-at wide (fontsOf e) (s .memories) (lookOf (e .phase) (s .control)) i h)
+    ∙ sym (picture-at wide (e .fonts) (s .memories) (lookOf (e .phase) (s .control)) i h)
 
 module _ (e : Seen) (s : State) (frame : List ℕ) (call : Event) (i : ℕ) (fits : Fits e frame) (h : i < 1024) where
   call-shows :
@@ -83,7 +83,7 @@ module _ (e : Seen) (s : State) (frame : List ℕ) (call : Event) (i : ℕ) (fit
   call-shows =
       rw (admitted e s frame call fits)
       (taken-shows e s frame (takenOn s call) i
-      (sizes.accepted (length frame) (length (e .half)) (length (e .full)) fits .frame) h)
+      (sizes.accepted (length frame) (length (e .fonts .half)) (length (e .fonts .full)) fits .frame) h)
 
   call-keeps : Valid s → namedBy s call i ≡ false → getD (pictureOf e (called e s frame call .state)) i 0 ≡ getD (pictureOf e s) i 0
   call-keeps v u =

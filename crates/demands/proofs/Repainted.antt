@@ -17,7 +17,7 @@ use Rattle.events.specs.declared.Transfer.{Transfer}
 use Rattle.events.specs.declared.Transfer.the-variants.{Instruct, Write, Status, Read}
 use Rattle.events.specs.declared.Deed.{Deed}
 use Rattle.events.specs.declared.Deed.the-variants as deed
-use Rattle.picture.specs.Picture.{Seen, fontsOf, lookOf, byteAt, wide, picture, pictured}
+use Rattle.picture.specs.Picture.{Seen, lookOf, byteAt, wide, picture, pictured}
 use Rattle.picture.proofs.Wide.{wide-placed}
 use Rattle.controller.specs.Glass.{placeOf}
 use Rattle.repaint.specs.Repaint.{named, repainted}
@@ -32,15 +32,15 @@ UnnamedKept e m c a =
     (row column : ℕ)
     → column < 32
     → covers (a .done .control .view) (a .memories .text) (a .done .region) row column ≡ false
-    → byteAt (fontsOf e) (a .memories) (lookOf (e .phase) (a .done .control)) row column ≡ byteAt (fontsOf e) m (lookOf (e .phase) c) row column
+    → byteAt (e .fonts) (a .memories) (lookOf (e .phase) (a .done .control)) row column ≡ byteAt (e .fonts) m (lookOf (e .phase) c) row column
 
 module _ (e : Seen) (m : Memories) (c : Control) (r : InRange c) where
   carriedOut-unnamed : (t : Transfer) → UnnamedKept e m c (carriedOut m c t)
   unfolding carriedOut executed statusRead
-  carriedOut-unnamed (Instruct byte) row column h u = obeyed-unnamed (fontsOf e) (e .phase) m c row column (said (modes c) byte) u
-  carriedOut-unnamed (Write byte) row column h u = written-unnamed (fontsOf e) (e .phase) m c row column byte r h u
+  carriedOut-unnamed (Instruct byte) row column h u = obeyed-unnamed (e .fonts) (e .phase) m c row column (said (modes c) byte) u
+  carriedOut-unnamed (Write byte) row column h u = written-unnamed (e .fonts) (e .phase) m c row column byte r h u
   carriedOut-unnamed Status row column h u = refl
-  carriedOut-unnamed Read row column h u = readOut-unnamed (fontsOf e) (e .phase) m c row column u
+  carriedOut-unnamed Read row column h u = readOut-unnamed (e .fonts) (e .phase) m c row column u
 
   pub performed-unnamed : (d : Deed) → UnnamedKept e m c (performed m c d)
   unfolding performed
@@ -52,12 +52,12 @@ module _ (e : Seen) (m : Memories) (c : Control) (r : InRange c) where
 repainted-picture :
     (e : Seen) (m : Memories) (c : Control) (a : Acted)
     → UnnamedKept e m c a
-    → repainted wide (fontsOf e) (a .memories) (lookOf (e .phase) (a .done .control)) (a .done .region) (pictured e m c)
+    → repainted wide (e .fonts) (a .memories) (lookOf (e .phase) (a .done .control)) (a .done .region) (pictured e m c)
     ≡ pictured e (a .memories) (a .done .control)
 unfolding repainted named picture
 repainted-picture e m c a k =
     repainted-whole wide 32 32 placeOf wide-placed (covers (a .done .control .view) (a .memories .text) (a .done .region))
-    (byteAt (fontsOf e) (a .memories) (lookOf (e .phase) (a .done .control))) (byteAt (fontsOf e) m (lookOf (e .phase) c))
+    (byteAt (e .fonts) (a .memories) (lookOf (e .phase) (a .done .control))) (byteAt (e .fonts) m (lookOf (e .phase) c))
     (λ row column h l u. k row column l u)
 
 -- the frame is the picture of the state

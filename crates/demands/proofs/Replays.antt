@@ -253,7 +253,7 @@ module _ (e : Seen) (last : ℕ) where
 
 module _ (e : Seen) (frame : List ℕ) where
   abbrev buffers : ℕ
-  buffers = refusalOf (length frame) (length (e .half)) (length (e .full))
+  buffers = refusalOf (length frame) (length (e .fonts .half)) (length (e .fonts .full))
 
   fit : TableSays e frame false 0 → Fits e frame
   fit says =

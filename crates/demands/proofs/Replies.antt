@@ -85,6 +85,6 @@ other-reply e s frame (Carries x) = refl
 pub replies-to-reads : RepliesToReads
 unfolding called
 replies-to-reads e s frame call h =
-    either (λ (k : Called). k .reply ≡ 0) (eqb (refusalOf (length frame) (length (e .half)) (length (e .full))) 0)
+    either (λ (k : Called). k .reply ≡ 0) (eqb (refusalOf (length frame) (length (e .fonts .half)) (length (e .fonts .full))) 0)
     (other-reply e s frame (takenOn s call) ∙ taken-reply (s .memories) (s .control) (s .control .function .dl) (s .link) call h)
     refl

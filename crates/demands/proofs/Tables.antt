@@ -27,17 +27,17 @@ use Rattle.demands.specs.Demand1.{SenderSays, SendRefuses, Marked, Allow
 abbrev pub orOther : Bool → ℕ → ℕ
 orOther other n = if eqb n 0 then (if other then 5 else 0) else n
 
-full-good : (e : Seen) → (not (eqb (length (e .full) % 32) 0) || ltb 267264 (length (e .full))) ≡ false → GoodFullFont e
+full-good : (e : Seen) → (not (eqb (length (e .fonts .full) % 32) 0) || ltb 267264 (length (e .fonts .full))) ≡ false → GoodFullFont e
 full-good e d =
-    let q = or-neither (not (eqb (length (e .full) % 32) 0)) (ltb 267264 (length (e .full))) d in
-    (eqb-true (length (e .full) % 32) 0 (not-false (eqb (length (e .full) % 32) 0) (q .0)), ltb-false 267264 (length (e .full)) (q .1))
+    let q = or-neither (not (eqb (length (e .fonts .full) % 32) 0)) (ltb 267264 (length (e .fonts .full))) d in
+    (eqb-true (length (e .fonts .full) % 32) 0 (not-false (eqb (length (e .fonts .full) % 32) 0) (q .0)), ltb-false 267264 (length (e .fonts .full)) (q .1))
 
-good-full : (e : Seen) → GoodFullFont e → (not (eqb (length (e .full) % 32) 0) || ltb 267264 (length (e .full))) ≡ false
-good-full e g = rw (eq-eqb (length (e .full) % 32) 0 (g .0), le-ltb 267264 (length (e .full)) (g .1))
+good-full : (e : Seen) → GoodFullFont e → (not (eqb (length (e .fonts .full) % 32) 0) || ltb 267264 (length (e .fonts .full))) ≡ false
+good-full e g = rw (eq-eqb (length (e .fonts .full) % 32) 0 (g .0), le-ltb 267264 (length (e .fonts .full)) (g .1))
 
 module _ (e : Seen) (frame : List ℕ) (other : Bool) where
   abbrev pub tableNumber : ℕ
-  tableNumber = orOther other (refusalOf (length frame) (length (e .half)) (length (e .full)))
+  tableNumber = orOther other (refusalOf (length frame) (length (e .fonts .half)) (length (e .fonts .full)))
 
   abbrev Says : ℕ → Type 0
   Says n = TableSays e frame other (orOther other n)
@@ -47,25 +47,25 @@ module _ (e : Seen) (frame : List ℕ) (other : Bool) where
   table-says =
       either-told Says (not (eqb (length frame) 1024)) (λ t. frameLength (eqb-false (length frame) 1024 (not-true (eqb (length frame) 1024) t)))
       (λ a. let f = eqb-true (length frame) 1024 (not-false (eqb (length frame) 1024) a) in
-      either-told Says (not (eqb (length (e .half)) 2048))
-      (λ t. halfFontLength f (eqb-false (length (e .half)) 2048 (not-true (eqb (length (e .half)) 2048) t)))
-      (λ b. let h = eqb-true (length (e .half)) 2048 (not-false (eqb (length (e .half)) 2048) b) in
-      either-told Says (not (eqb (length (e .full) % 32) 0) || ltb 267264 (length (e .full)))
+      either-told Says (not (eqb (length (e .fonts .half)) 2048))
+      (λ t. halfFontLength f (eqb-false (length (e .fonts .half)) 2048 (not-true (eqb (length (e .fonts .half)) 2048) t)))
+      (λ b. let h = eqb-true (length (e .fonts .half)) 2048 (not-false (eqb (length (e .fonts .half)) 2048) b) in
+      either-told Says (not (eqb (length (e .fonts .full) % 32) 0) || ltb 267264 (length (e .fonts .full)))
       (λ t. fullFontLength f h (λ g. true≢false (sym t ∙ good-full e g)))
       (λ d. either-told (TableSays e frame other) other (otherLink f h (full-good e d)) (allGood f h (full-good e d)))))
 
   pub table-number : (n : ℕ) → TableSays e frame other n → n ≡ tableNumber
   unfolding refusalOf
   table-number n (frameLength g) = rw (ne-eqb (length frame) 1024 g)
-  table-number n (halfFontLength f g) = rw (eq-eqb (length frame) 1024 f, ne-eqb (length (e .half)) 2048 g)
+  table-number n (halfFontLength f g) = rw (eq-eqb (length frame) 1024 f, ne-eqb (length (e .fonts .half)) 2048 g)
   table-number n (fullFontLength f h g) =
       rw (
         eq-eqb (length frame) 1024 f,
-        eq-eqb (length (e .half)) 2048 h,
-        by-test (not (eqb (length (e .full) % 32) 0) || ltb 267264 (length (e .full))) (λ t. t) (λ d. absurd (g (full-good e d))),
+        eq-eqb (length (e .fonts .half)) 2048 h,
+        by-test (not (eqb (length (e .fonts .full) % 32) 0) || ltb 267264 (length (e .fonts .full))) (λ t. t) (λ d. absurd (g (full-good e d))),
       )
-  table-number n (otherLink f h g o) = rw (eq-eqb (length frame) 1024 f, eq-eqb (length (e .half)) 2048 h, good-full e g, o)
-  table-number n (allGood f h g o) = rw (eq-eqb (length frame) 1024 f, eq-eqb (length (e .half)) 2048 h, good-full e g, o)
+  table-number n (otherLink f h g o) = rw (eq-eqb (length frame) 1024 f, eq-eqb (length (e .fonts .half)) 2048 h, good-full e g, o)
+  table-number n (allGood f h g o) = rw (eq-eqb (length frame) 1024 f, eq-eqb (length (e .fonts .half)) 2048 h, good-full e g, o)
 
   pub table-once : OneNumber (TableSays e frame other)
   table-once m n x y = table-number m x ∙ sym (table-number n y)

@@ -35,10 +35,10 @@ abbrev pub GoodFrame : List ℕ → Type 0
 GoodFrame frame = length frame ≡ 1024
 
 abbrev pub GoodHalfFont : Seen → Type 0
-GoodHalfFont e = length (e .half) ≡ 2048
+GoodHalfFont e = length (e .fonts .half) ≡ 2048
 
 abbrev pub GoodFullFont : Seen → Type 0
-GoodFullFont e = (length (e .full) % 32 ≡ 0) × (length (e .full) ≤ 267264)
+GoodFullFont e = (length (e .fonts .full) % 32 ≡ 0) × (length (e .fonts .full) ≤ 267264)
 
 -- The table of refusal numbers, "when, and only then", in its order; `other` says whether the call is of the other link.
 pub data TableSays (e : Seen) (frame : List ℕ) (other : Bool) : ℕ → Type 0 where

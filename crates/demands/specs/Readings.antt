@@ -89,7 +89,7 @@ cases =
 
 -- seen with a zero half font, an empty full font and phase 0; each row's frame is zero too
 abbrev pub zeroFonts : Seen
-zeroFonts = record { half = replicate 2048 0; full = []; phase = false }
+zeroFonts = record { fonts = record { half = replicate 2048 0; full = [] }; phase = false }
 
 -- what can be read off a panel after some calls
 pub record Observed : Type 0 where

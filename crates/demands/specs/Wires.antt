@@ -16,7 +16,7 @@ use Rattle.events.specs.declared.Transfer.{Transfer}
 use Rattle.events.specs.declared.Transfer.the-variants.{Instruct, Write, Status, Read}
 use Rattle.connector.specs.Items.{WholeWrite, Item, write, deed, Way, wholeBytes, halves, serial, wires}
 use Rattle.connector.specs.Connector.{Performed, Controller, does}
-use Rattle.picture.specs.Picture.{Seen, fontsOf, lookOf, wide}
+use Rattle.picture.specs.Picture.{Seen, lookOf, wide}
 use Rattle.repaint.specs.Repaint.{repainted, countNamed}
 use Rattle.calls.specs.State.{State, state}
 use Rattle.calls.specs.Calls.{Called, called, Stands}
@@ -53,7 +53,7 @@ boardAfter e b a =
     record {
       memories = a .memories;
       control = a .done .control;
-      frame = repainted wide (fontsOf e) (a .memories) (lookOf (e .phase) (a .done .control)) (a .done .region) (b .frame);
+      frame = repainted wide (e .fonts) (a .memories) (lookOf (e .phase) (a .done .control)) (a .done .region) (b .frame);
     }
 
 abbrev pub performedBy : Seen → Board → Acted → Performed Board

@@ -23,8 +23,8 @@ use Rattle.base.proofs.Copies.{one-further, not-yet}
 use Rattle.picture.specs.declared.Look.{Look}
 use Rattle.controller.specs.Memories.{Memories, half}
 use Rattle.controller.specs.Glass.{shownRow, shownWord}
-use Rattle.picture.specs.Picture.{Fonts, right, effectsOf, cellByte, graphicByte, filled, inverted, overlaid, darkened, shaded, byteOver, byteAt, wide, picture}
-use Rattle.picture.specs.Tiles.{counterWord, wordDots, lineWord, tileByte, byTile, fromTiles, inRows, bandEnd, shownBy, pairBy}
+use Rattle.picture.specs.Picture.{Fonts, right, cellByte, graphicByte, filled, inverted, overlaid, byteOver, byteAt, wide, picture}
+use Rattle.picture.specs.Tiles.{counterWord, wordDots, lineWord, counterTile, underlined, turned, tileByte, byTile, fromTiles, inRows, shownBy, pairBy}
 use Rattle.picture.specs.declared.Pair.{Pair}
 use Rattle.picture.proofs.Bytes.{counter-here}
 use Rattle.picture.proofs.Unread.{half-right}
@@ -35,31 +35,37 @@ inverted-upto P f n =
     painted-upto P (λ i. 0xFF - getD (upto n f) i 0) f n
     ∙ upto-cong n _ _ (λ i l. ap (λ (x : ℕ). if P i then 0xFF - x else f i) (getD-upto n f i l))
 
+-- stage over stage
+pub stages : (cursor blink reverse : Bool) (at end : ℕ) (t u v w : List ℕ)
+    → u ≡ underlined cursor at t
+    → v ≡ turned blink at (at + 32) u
+    → w ≡ turned reverse 0 end v
+    → w ≡ turned reverse 0 end (turned blink at (at + 32) (underlined cursor at t))
+stages cursor blink reverse at end t u v w a b c = rw (c, b, a)
+
 -- marked and reversed
-pub marked : (n : ℕ) (f : ℕ → ℕ) (P Q R : ℕ → Bool) (t u v w : List ℕ)
-    → t ≡ upto n f
-    → u ≡ painted P (λ i. 0xFF) t
-    → v ≡ painted Q (λ i. 0xFF - getD u i 0) u
-    → w ≡ painted R (λ i. 0xFF - getD v i 0) v
-    → w ≡ upto n (λ i. inverted (R i) (inverted (Q i) (filled (P i) (f i))))
-marked n f P Q R t u v w a b c d =
-    let first : u ≡ upto n (λ i. filled (P i) (f i)) = b ∙ ap (painted P (λ i. 0xFF)) a ∙ painted-upto P (λ i. 0xFF) f n in
-    let second : v ≡ upto n (λ i. inverted (Q i) (filled (P i) (f i))) = (rw first at c) ∙ inverted-upto Q (λ i. filled (P i) (f i)) n in
-    (rw second at d) ∙ inverted-upto R (λ i. inverted (Q i) (filled (P i) (f i))) n
+marked : (n : ℕ) (f : ℕ → ℕ) (P Q R : ℕ → Bool) → (
+    let u = painted P (λ i. 0xFF) (upto n f) in
+    let v = painted Q (λ i. 0xFF - getD u i 0) u in
+    painted R (λ i. 0xFF - getD v i 0) v) ≡ upto n (λ i. inverted (R i) (inverted (Q i) (filled (P i) (f i))))
+marked n f P Q R =
+    rw (painted-upto P (λ i. 0xFF) f n, inverted-upto Q (λ i. filled (P i) (f i)) n) (inverted-upto R (λ i. inverted (Q i) (filled (P i) (f i))) n)
 
 -- one cell further: its tile begins at a multiple of 32
 pub words-turn : (d : ℕ → ℕ → ℕ) (cell : ℕ) (f g h : List ℕ)
     → g ≡ painted (between 0 (32 * cell) everywhere) (byTile d) f
     → h ≡ painted (between (32 * cell) (32 * cell + 32) everywhere) (λ i. d cell (i - 32 * cell)) g
-    → h ≡ painted (between 0 (32 * (cell + 1)) everywhere) (byTile d) f
+    → (length h ≡ length g) × (h ≡ painted (between 0 (32 * (cell + 1)) everywhere) (byTile d) f)
 words-turn d cell f g h c e =
-    let next : 32 * (cell + 1) ≡ 32 * cell + 32 = omega arith in
-    rw next (paint-step everywhere (byTile d) f g h 0 (32 * cell) (32 * cell + 32) (omega arith) (omega arith) c
-    (e ∙ painted-cong _ _ _ (byTile d) g (λ i l. refl)
-    (λ i l t. let q = in-between (32 * cell) (32 * cell + 32) everywhere i t in
-    let a : cell ≡ i / 32 = omega arith in
-    let b : i - 32 * cell ≡ i % 32 = omega arith in
-    ap₂ d a b)))
+    let next : 32 * (cell + 1) ≡ 32 * cell + 32 = omega arith in (
+      as-long _ _ g h e,
+      rw next (paint-step everywhere (byTile d) f g h 0 (32 * cell) (32 * cell + 32) (omega arith) (omega arith) c
+          (e ∙ painted-cong _ _ _ (byTile d) g (λ i l. refl)
+          (λ i l t. let q = in-between (32 * cell) (32 * cell + 32) everywhere i t in
+          let a : cell ≡ i / 32 = omega arith in
+          let b : i - 32 * cell ≡ i % 32 = omega arith in
+          ap₂ d a b))),
+    )
 
 -- the two bytes of a cell that a row takes
 pub taken-left : (tiles : List ℕ) (y row cell : ℕ) → cell < 16 → getD tiles (32 * cell + 2 * y) 0 ≡ fromTiles tiles y (32 * row + 2 * cell)
@@ -171,21 +177,21 @@ module _ (e : Fonts) (text glyph : List ℕ) (look : Look) where
   by-counter word j here l e = rw (← counter-here (look .counter) word l, e)
 
   module _ (line : ℕ) (shifts : look .view .shift < 256) (lines : line < 4) where
-    abbrev at : ℕ
-    at = 32 * ((counterWord (look .counter) % 16 + 256 - look .view .shift) % 16)
+    abbrev start : ℕ
+    start = counterTile (counterWord (look .counter)) (look .view .shift)
 
     abbrev here : Bool
     here = eqb (counterWord (look .counter) / 16) line
 
     line-byte : (i : ℕ) → i < 512
         → inverted (getD (look .view .reversed) line false && between 0 512 everywhere i)
-        (inverted ((here && look .blink) && between at (at + 32) everywhere i)
-        (filled ((here && look .cursor) && (eqb i (at + 30) || eqb i (at + 30 + 1)))
+        (inverted ((here && look .blink) && between start (start + 32) everywhere i)
+        (filled ((here && look .cursor) && (eqb i (start + 30) || eqb i (start + 30 + 1)))
         (wordDots e text glyph (lineWord (look .view .shift) line (i / 32)) (i % 32))))
         ≡ tileByte e text glyph look (lineWord (look .view .shift) line (i / 32)) (i % 32)
     line-byte i l =
         let word = lineWord (look .view .shift) line (i / 32) in
-        let there = between at (at + 32) everywhere i in
+        let there = between start (start + 32) everywhere i in
         let q : word / 16 ≡ line = omega arith in
         sym (by-counter word (i % 32) (here && there) (omega arith) (counter-on-line (look .view .shift) line (counterWord (look .counter)) i shifts l)
         ∙ rw (
@@ -197,17 +203,19 @@ module _ (e : Fonts) (text glyph : List ℕ) (look : Look) where
           last-row ((counterWord (look .counter) % 16 + 256 - look .view .shift) % 16) i,
         ))
 
-    pub line-marked : (t u v w : List ℕ)
+    pub line-marked : (t w : List ℕ) (at counter : ℕ) (cursor blink : Bool)
         → t ≡ upto 512 (byTile (λ cell j. wordDots e text glyph (lineWord (look .view .shift) line cell) j))
-        → u ≡ painted (λ i. (here && look .cursor) && (eqb i (at + 30) || eqb i (at + 30 + 1))) (λ i. 0xFF) t
-        → v ≡ painted (λ i. (here && look .blink) && between at (at + 32) everywhere i) (λ i. 0xFF - getD u i 0) u
-        → w ≡ painted (λ i. getD (look .view .reversed) line false && between 0 512 everywhere i) (λ i. 0xFF - getD v i 0) v
+        → counter ≡ counterWord (look .counter)
+        → at ≡ counterTile counter (look .view .shift)
+        → cursor ≡ (eqb (counter / 16) line && look .cursor)
+        → blink ≡ (eqb (counter / 16) line && look .blink)
+        → w ≡ turned (getD (look .view .reversed) line false) 0 512 (turned blink at (at + 32) (underlined cursor at t))
         → w ≡ upto 512 (byTile (λ cell j. tileByte e text glyph look (lineWord (look .view .shift) line cell) j))
-    line-marked t u v w a b d g =
-        marked 512 (byTile (λ cell j. wordDots e text glyph (lineWord (look .view .shift) line cell) j))
-        (λ i. (here && look .cursor) && (eqb i (at + 30) || eqb i (at + 30 + 1)))
-        (λ i. (here && look .blink) && between at (at + 32) everywhere i)
-        (λ i. getD (look .view .reversed) line false && between 0 512 everywhere i) t u v w a b d g
+    line-marked t w at counter cursor blink laid is-counter is-at is-cursor is-blink is =
+        (rw (is-cursor, is-blink, is-at, is-counter, laid) at is)
+        ∙ marked 512 _ (λ i. (here && look .cursor) && (eqb i (start + 30) || eqb i (start + 30 + 1)))
+        (λ i. (here && look .blink) && between start (start + 32) everywhere i)
+        (λ i. getD (look .view .reversed) line false && between 0 512 everywhere i)
         ∙ upto-cong 512 _ _ (λ i l. line-byte i l)
 
   -- one tile
@@ -235,29 +243,23 @@ module _ (e : Fonts) (text glyph : List ℕ) (look : Look) where
           and-true marks,
         ))
 
-    pub tile-marked : (t u v w : List ℕ)
+    pub tile-marked : (t w : List ℕ) (counter : ℕ) (cursor blink : Bool)
         → t ≡ upto 32 (wordDots e text glyph word)
-        → u ≡ painted (λ i. (marks && look .cursor) && (eqb i 30 || eqb i 31)) (λ i. 0xFF) t
-        → v ≡ painted (λ i. (marks && look .blink) && between 0 32 everywhere i) (λ i. 0xFF - getD u i 0) u
-        → w ≡ painted (λ i. getD (look .view .reversed) (word / 16) false && between 0 32 everywhere i) (λ i. 0xFF - getD v i 0) v
+        → counter ≡ counterWord (look .counter)
+        → cursor ≡ (eqb word counter && look .cursor)
+        → blink ≡ (eqb word counter && look .blink)
+        → w ≡ turned (getD (look .view .reversed) (word / 16) false) 0 32 (turned blink 0 32 (underlined cursor 0 t))
         → w ≡ upto 32 (tileByte e text glyph look word)
-    tile-marked t u v w a b d g =
-        marked 32 (wordDots e text glyph word)
-        (λ i. (marks && look .cursor) && (eqb i 30 || eqb i 31))
+    tile-marked t w counter cursor blink laid is-counter is-cursor is-blink is =
+        (rw (is-cursor, is-blink, is-counter, laid) at is)
+        ∙ marked 32 _ (λ i. (marks && look .cursor) && (eqb i 30 || eqb i 31))
         (λ i. (marks && look .blink) && between 0 32 everywhere i)
-        (λ i. getD (look .view .reversed) (word / 16) false && between 0 32 everywhere i) t u v w a b d g
+        (λ i. getD (look .view .reversed) (word / 16) false && between 0 32 everywhere i)
         ∙ upto-cong 32 _ _ (λ i l. tile-byte i l)
 
 -- the rows of a band show one line, one after the other
-pub band-bounds : (row s : ℕ) → row < 32 → (row < bandEnd row s) × (bandEnd row s ≤ 32) × (bandEnd row s + s % 16 ≤ row + 16)
-unfolding bandEnd
-band-bounds row s h =
-    either-told (λ (n : ℕ). (row < n) × (n ≤ 32) × (n + s % 16 ≤ row + 16)) (ltb (row + 16 - s % 16) 32)
-    (λ t. let k : row + 16 - s % 16 < 32 = ltb-true _ _ t in (omega arith, omega arith, omega arith))
-    (λ t. let k : 32 ≤ row + 16 - s % 16 = ltb-false _ _ t in (omega arith, omega arith, omega arith))
-
-row-in-band : (scroll row r end : ℕ) → row ≤ r → r < end → end + (row + scroll) % 64 % 16 ≤ row + 16 → (r + scroll) % 64 ≡ (row + scroll) % 64 + (r - row)
-row-in-band scroll row r end h l k = omega arith
+row-in-band : (scroll row r end s : ℕ) → s ≡ (row + scroll) % 64 → row ≤ r → r < end → end + s % 16 ≤ row + 16 → (r + scroll) % 64 ≡ s + (r - row)
+row-in-band scroll row r end s is h l k = omega arith
 
 still-inside : (t end row r : ℕ) → row ≤ r → r < end → end + t ≤ row + 16 → t + (r - row) < 16
 still-inside t end row r h l k = omega arith
@@ -290,8 +292,8 @@ row-lt x = omega arith
 side-lt : (x : ℕ) → x % 2 < 2
 side-lt x = omega arith
 
-pub over-fits : (x row end : ℕ) → row < end → end + x % 64 % 16 ≤ row + 16 → 32 * (x % 64) + 32 * (end - row) ≤ 2048
-over-fits x row end h l = omega arith
+pub over-fits : (s row end : ℕ) → s < 64 → row < end → end + s % 16 ≤ row + 16 → 32 * s + 32 * (end - row) ≤ 2048
+over-fits s row end b h l = omega arith
 
 -- a place of the graphic memory under a band
 graphic-of : (s row i : ℕ) → row ≤ i / 32 → 32 * s + (i - 32 * row) ≡ 32 * (s + (i / 32 - row)) + 2 * (i % 32 / 2) + half (right (i % 32))
@@ -300,21 +302,21 @@ graphic-of s row i h =
     let a : i % 32 ≡ 2 * (i % 32 / 2) + i % 32 % 2 = omega arith in
     omega arith
 
-alight : (d : Bool) (x : ℕ) → d ≡ false → darkened d x ≡ x
+alight : (d : Bool) (x : ℕ) → d ≡ false → (if d then 0x00 else x) ≡ x
 alight d x h = rw h
 
 module _ (e : Fonts) (m : Memories) (look : Look) where
   -- where nothing shows
   pub dark-picture : look .dark ≡ true → upto 1024 (λ i. 0) ≡ picture wide e m look
-  unfolding picture byteAt byteOver shaded effectsOf
+  unfolding picture byteAt byteOver
   dark-picture h = upto-cong 1024 _ _ (λ i l. rw h)
 
   -- a byte of the picture is the tile's, with the graphic over it
   byte-by-tile : (row column : ℕ) → byteAt e m look row column
-      ≡ darkened (look .dark)
-      (overlaid (look .graphic) (graphicByte (m .graphic) (look .view) row column)
+      ≡ (if look .dark then 0x00
+      else overlaid (look .graphic) (graphicByte (m .graphic) (look .view) row column)
       (tileByte e (m .text) (m .glyph) look (shownWord (look .view) row (column / 2)) (2 * (shownRow (look .view) row % 16) + column % 2)))
-  unfolding byteAt byteOver shaded effectsOf cellByte tileByte shownWord
+  unfolding byteAt byteOver cellByte tileByte shownWord
   byte-by-tile row column =
       let s = shownRow (look .view) row in
       let a : (2 * (s % 16) + column % 2) / 2 ≡ s % 16 = omega arith in
@@ -330,10 +332,7 @@ module _ (e : Fonts) (m : Memories) (look : Look) where
       rw (t, getD-upto 32 (tileByte e (m .text) (m .glyph) look word) j (omega arith), w) (sym (byte-by-tile row column))
 
   module _ (light : look .dark ≡ false) where
-    module _ (row end : ℕ) (some : row < end) (below : end ≤ 32) (one : end + (row + look .view .scroll) % 64 % 16 ≤ row + 16) where
-      abbrev s : ℕ
-      s = (row + look .view .scroll) % 64
-
+    module _ (row end s : ℕ) (is : s ≡ shownRow (look .view) row) (some : row < end) (below : end ≤ 32) (one : end + s % 16 ≤ row + 16) where
       abbrev line : ℕ → ℕ
       line = byTile (λ cell j. tileByte e (m .text) (m .glyph) look (lineWord (look .view .shift) (s / 16) cell) j)
 
@@ -344,7 +343,7 @@ module _ (e : Fonts) (m : Memories) (look : Look) where
       band-byte tiles i t l k =
           let r : row ≤ i / 32 = omega arith in
           let q : i / 32 < end = omega arith in
-          let z : (i / 32 + look .view .scroll) % 64 ≡ s + (i / 32 - row) = row-in-band (look .view .scroll) row (i / 32) end r q one in
+          let z : (i / 32 + look .view .scroll) % 64 ≡ s + (i / 32 - row) = row-in-band (look .view .scroll) row (i / 32) end s is r q one in
           let y = within-line (i / 32 + look .view .scroll) in
           let x : s / 16 ≡ (i / 32 + look .view .scroll) % 64 / 16 = rw z (same-line s (i / 32 - row) (still-inside (s % 16) end row (i / 32) r q one)) in
           let g : 32 * s + (i - 32 * row) ≡ 32 * ((i / 32 + look .view .scroll) % 64) + 2 * (i % 32 / 2) + half (right (i % 32)) = rw z (graphic-of s row i r) in
@@ -380,12 +379,12 @@ pairOf left right = record { left = left; right = right }
 -- the two bytes of a cell, by its tile
 pub pair-shown-by : (tile graphic : List ℕ) (look : Look) (row cell : ℕ)
     → pairOf
-    (darkened (look .dark)
-    (overlaid (look .graphic) (getD graphic (32 * ((row + look .view .scroll) % 64) + 2 * cell) 0) (getD tile (2 * ((row + look .view .scroll) % 64 % 16)) 0)))
-    (darkened (look .dark)
-    (overlaid (look .graphic) (getD graphic (32 * ((row + look .view .scroll) % 64) + 2 * cell + 1) 0) (getD tile (2 * ((row + look .view .scroll) % 64 % 16) + 1) 0)))
+    (if look .dark then 0x00
+    else overlaid (look .graphic) (getD graphic (32 * shownRow (look .view) row + 2 * cell) 0) (getD tile (2 * (shownRow (look .view) row % 16)) 0))
+    (if look .dark then 0x00
+    else overlaid (look .graphic) (getD graphic (32 * shownRow (look .view) row + 2 * cell + 1) 0) (getD tile (2 * (shownRow (look .view) row % 16) + 1) 0))
     ≡ pairBy tile graphic look row cell
-unfolding shownBy graphicByte shownRow
+unfolding shownBy graphicByte
 pair-shown-by tile graphic look row cell =
     let a : 2 * cell / 2 ≡ cell = omega arith in
     let b : 2 * cell % 2 ≡ 0 = omega arith in

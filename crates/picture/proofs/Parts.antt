@@ -4,7 +4,7 @@ use mathlib.Core.Path.{_≡_}
 use Rattle.controller.specs.Memories.{Memories}
 use Rattle.controller.specs.Glass.{shownWord}
 use Rattle.picture.specs.declared.Look.{Look}
-use Rattle.picture.specs.Picture.{Fonts, cellByte, graphicByte, atCounter, effectsOf, byteOver, byteAt}
+use Rattle.picture.specs.Picture.{Fonts, cellByte, graphicByte, atCounter, byteOver, byteAt}
 
 -- the parts of a byte, the same for the memories n and the look b as for m and a: scroll, shift and the reversed lines; whether the counter's
 -- word is here; cursor and blink; graphic on; dark; the cell's byte; and the graphic byte
@@ -20,5 +20,5 @@ pub record SameParts (e : Fonts) (m n : Memories) (a b : Look) (row column : ℕ
 
 pub equal-parts-equal-bytes : (e : Fonts) (m n : Memories) (a b : Look) (row column : ℕ)
     → SameParts e m n a b row column → byteAt e n b row column ≡ byteAt e m a row column
-unfolding byteAt byteOver effectsOf
+unfolding byteAt byteOver
 equal-parts-equal-bytes e m n a b row column s = cc (s .view, s .here, s .cursor, s .blink, s .g, s .dark, s .cell, s .graphic)

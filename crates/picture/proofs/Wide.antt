@@ -13,7 +13,7 @@ use Rattle.base.specs.Layout.{Layout, on, wholeOn, paintedOn, countOn}
 use Rattle.base.proofs.Tests.{alike, and-both, or-either, or-else}
 use Rattle.base.proofs.Lists.{getD-upto}
 use Rattle.base.proofs.Counting.{count-cong}
-use Rattle.base.proofs.Painting.{painted-same, painted-none, painted-or, painted-all}
+use Rattle.base.proofs.Painting.{painted-same, painted-none, painted-or, painted-all, as-long}
 use Rattle.base.proofs.Loops.{in-between, of-between}
 use Rattle.base.proofs.Layouts.{Placed, pair, only, in-rows, of-rows, rows-none, rows-join, pair-stored, pair-counted}
 use Rattle.controller.specs.Memories.{Memories}
@@ -78,10 +78,12 @@ pub bands-begin : (b : ℕ → ℕ → ℕ) (f : List ℕ) → f ≡ paintedOn w
 bands-begin b f = sym (painted-none _ (on wide b) f (λ i h. rows-none (λ r c. true) 0 (i / 32) (i % 32)))
 
 pub bands-turn : (b : ℕ → ℕ → ℕ) (row end : ℕ) (f g h : List ℕ) → row < end → g ≡ paintedOn wide (inRows 0 row) b f
-    → h ≡ paintedOn wide (inRows row end) b g → h ≡ paintedOn wide (inRows 0 end) b f
-bands-turn b row end f g h l c e =
-    e ∙ ap (paintedOn wide (inRows row end) b) c ∙ painted-or (on wide (inRows 0 row)) (on wide (inRows row end)) (on wide b) f
-    ∙ sym (painted-same _ _ (on wide b) f (λ i z. rows-join (λ r c. true) 0 row end (i / 32) (i % 32) (omega arith) (omega arith)))
+    → h ≡ paintedOn wide (inRows row end) b g → (length h ≡ length g) × (h ≡ paintedOn wide (inRows 0 end) b f)
+bands-turn b row end f g h l c e = (
+  as-long _ _ g h e,
+  e ∙ ap (paintedOn wide (inRows row end) b) c ∙ painted-or (on wide (inRows 0 row)) (on wide (inRows row end)) (on wide b) f
+      ∙ sym (painted-same _ _ (on wide b) f (λ i z. rows-join (λ r c. true) 0 row end (i / 32) (i % 32) (omega arith) (omega arith))),
+)
 
 pub bands-end : (b : ℕ → ℕ → ℕ) (row : ℕ) (f g : List ℕ) → row ≡ 32 → length f ≡ 1024 → g ≡ paintedOn wide (inRows 0 row) b f → g ≡ wholeOn wide b
 bands-end b row f g k size c =

@@ -19,7 +19,6 @@ use Rattle.controller.specs.Glass.{shownRow, shownWord}
 use Rattle.glyph.specs.declared.Content.{Content}
 use Rattle.glyph.specs.Lookup.{contentOf}
 use Rattle.glyph.specs.Dots.{dotsOf}
-use Rattle.picture.specs.declared.Effects.{Effects}
 use Rattle.picture.specs.declared.Look.{Look}
 
 -- the lent fonts
@@ -33,15 +32,11 @@ fonts half full = record { half = now (half .entry); full = now (full .entry) }
 
 -- what a call is seen with: the lent fonts and the blink phase
 pub record Seen : Type 0 where
-  pub half : List ℕ
-  pub full : List ℕ
+  pub fonts : Fonts
   pub phase : Bool
 
 abbrev pub seen : Lent → Lent → Bool → Seen
-seen half full phase = record { half = now (half .entry); full = now (full .entry); phase = phase }
-
-abbrev pub fontsOf : Seen → Fonts
-fontsOf e = record { half = e .half; full = e .full }
+seen half full phase = record { fonts = fonts half full; phase = phase }
 
 -- what the picture looks at beside the memories: the view; the counter's cell, if target is text, with its marks, the cursor and blink with
 -- phase 1; the graphic if G; dark if display 0 or standby
@@ -79,22 +74,6 @@ abbrev pub atCounter : Cell → ℕ → Bool
 atCounter Nowhere word = false
 atCounter (Word counter) word = eqb word counter
 
--- on memory row s, in the cell at the counter (here) or in another: cursor sets glyph row 15 and blink inverts the cell; line reverse
--- inverts; then graphic and dark
-unfoldable pub effectsOf : Look → ℕ → Bool → Effects
-effectsOf look s here =
-    record {
-      cursor = here && (look .cursor && eqb (s % 16) 15);
-      blink = here && look .blink;
-      reverse = getD (look .view .reversed) (s / 16) false;
-      graphic = look .graphic;
-      dark = look .dark;
-    }
-
-abbrev pub effectsAt : Look → ℕ → ℕ → Effects
-effectsAt look row cell =
-    effectsOf look (shownRow (look .view) row) (atCounter (look .counter) (shownWord (look .view) row cell))
-
 -- sets
 abbrev pub filled : Bool → ℕ → ℕ
 filled on byte = if on then 0xFF else byte
@@ -107,18 +86,17 @@ inverted on byte = if on then 0xFF - byte else byte
 abbrev pub overlaid : Bool → ℕ → ℕ → ℕ
 overlaid on dots byte = if on then bitXor byte dots else byte
 
--- all zero
-abbrev pub darkened : Bool → ℕ → ℕ
-darkened on byte = if on then 0x00 else byte
-
--- then cursor, blink, line reverse, the graphic byte, and display 0 or standby, each over what came before
-unfoldable pub shaded : Effects → ℕ → ℕ → ℕ
-shaded e cell dots =
-    darkened (e .dark) (overlaid (e .graphic) dots (inverted (e .reverse) (inverted (e .blink) (filled (e .cursor) cell))))
-
--- byte `column` of row `row` of the glass, where its cell has these dots
+-- byte `column` of row `row` of the glass, where its cell has these dots. Then, in the counter's cell (here), cursor sets glyph row 15 and
+-- blink inverts; then line reverse inverts; then exclusive or with the graphic; all zero where dark
 unfoldable pub byteOver : ℕ → List ℕ → Look → ℕ → ℕ → ℕ
-byteOver dots graphic look row column = shaded (effectsAt look row (column / 2)) dots (graphicByte graphic (look .view) row column)
+byteOver dots graphic look row column =
+    let s = shownRow (look .view) row in
+    let here = atCounter (look .counter) (shownWord (look .view) row (column / 2)) in
+    if look .dark then 0x00
+    else overlaid (look .graphic) (graphicByte graphic (look .view) row column)
+    (inverted (getD (look .view .reversed) (s / 16) false)
+    (inverted (here && look .blink)
+    (filled (here && (look .cursor && eqb (s % 16) 15)) dots)))
 
 -- and as the cell has them
 unfoldable pub byteAt : Fonts → Memories → Look → ℕ → ℕ → ℕ
@@ -134,4 +112,4 @@ picture l e m look = wholeOn l (byteAt e m look)
 
 -- the picture of a state, as a call sees it
 abbrev pub pictured : Seen → Memories → Control → List ℕ
-pictured e m c = picture wide (fontsOf e) m (lookOf (e .phase) c)
+pictured e m c = picture wide (e .fonts) m (lookOf (e .phase) c)

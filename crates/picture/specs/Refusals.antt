@@ -20,7 +20,7 @@ refusalOf frame half full =
 
 -- the number of what a call is lent
 abbrev pub lentRefusal : Seen → List ℕ → ℕ
-lentRefusal e frame = refusalOf (length frame) (length (e .half)) (length (e .full))
+lentRefusal e frame = refusalOf (length frame) (length (e .fonts .half)) (length (e .fonts .full))
 
 -- frame and fonts have the lengths that refusals 1, 2 and 3 ask for
 abbrev pub Fits : Seen → List ℕ → Type 0

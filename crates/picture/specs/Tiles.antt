@@ -1,11 +1,12 @@
 -- No sentence of document 01, but what the contracts of the code promise: the bytes of a cell's sixteen rows at once, its tile, and a line's
 -- sixteen tiles one after the other. proofs/Laid.antt shows that they are the bytes of the picture before the graphic.
 use Prim.Native.Nat.{ℕ, _+_, _*_, _-_, _/_, _%_}
-use mathlib.Core.Bool.{Bool, true, false, _&&_}
+use mathlib.Core.Bool.{Bool, true, false, _&&_, _||_}
 use mathlib.Core.List.{List}
 use lib.ListN.{length, getD, set}
 use lib.Dec.{eqb, ltb}
 use Rattle.base.specs.Choice.{if_then_else_}
+use Rattle.base.specs.Painting.{painted, everywhere, between}
 use Rattle.base.specs.Layout.{rows}
 use Rattle.controller.specs.declared.Cell.{Cell}
 use Rattle.controller.specs.declared.Cell.the-variants.{Nowhere, Word}
@@ -13,7 +14,7 @@ use Rattle.controller.specs.Glass.{shownRow}
 use Rattle.glyph.specs.Tiles.{tileDots}
 use Rattle.picture.specs.declared.Look.{Look}
 use Rattle.picture.specs.declared.Pair.{Pair}
-use Rattle.picture.specs.Picture.{Fonts, wordContent, graphicByte, atCounter, filled, inverted, overlaid, darkened}
+use Rattle.picture.specs.Picture.{Fonts, wordContent, graphicByte, atCounter, filled, inverted, overlaid}
 
 -- the counter's word, or 64, which no cell shows
 abbrev pub counterWord : Cell → ℕ
@@ -35,6 +36,17 @@ tileByte e text glyph look word j =
     (inverted (atCounter (look .counter) word && look .blink)
     (filled (atCounter (look .counter) word && (look .cursor && eqb (j / 2) 15)) (wordDots e text glyph word j)))
 
+-- where the tile of the counter's word begins in its line
+abbrev pub counterTile : ℕ → ℕ → ℕ
+counterTile counter shift = 32 * ((counter % 16 + 256 - shift) % 16)
+
+-- the last row of the tile that begins at `at` set; and bytes inverted; each if at all
+abbrev pub underlined : Bool → ℕ → List ℕ → List ℕ
+underlined on at = painted (λ i. on && (eqb i (at + 30) || eqb i (at + 30 + 1))) (λ i. 0xFF)
+
+abbrev pub turned : Bool → ℕ → ℕ → List ℕ → List ℕ
+turned on from to tiles = painted (λ i. on && between from to everywhere i) (λ i. 0xFF - getD tiles i 0) tiles
+
 -- byte i of tiles that lie one after the other
 abbrev pub byTile : (ℕ → ℕ → ℕ) → ℕ → ℕ
 byTile byte i = byte (i / 32) (i % 32)
@@ -54,8 +66,8 @@ inRows first end = rows first end (λ r c. true)
 -- byte `column` of row `row` of the glass, by the tile of its cell
 unfoldable pub shownBy : List ℕ → List ℕ → Look → ℕ → ℕ → ℕ
 shownBy tile graphic look row column =
-    darkened (look .dark)
-    (overlaid (look .graphic) (graphicByte graphic (look .view) row column) (getD tile (2 * (shownRow (look .view) row % 16) + column % 2) 0))
+    if look .dark then 0x00
+    else overlaid (look .graphic) (graphicByte graphic (look .view) row column) (getD tile (2 * (shownRow (look .view) row % 16) + column % 2) 0)
 
 -- one row of a cell: its two bytes, by the tile; two bytes stored at a place of a frame and at the next; and which bytes of the glass they are
 abbrev pub pairBy : List ℕ → List ℕ → Look → ℕ → ℕ → Pair

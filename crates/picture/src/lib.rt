@@ -9,6 +9,7 @@ pub mod looks;
 pub mod paint;
 pub mod refusals;
 mod shade;
+mod shown;
 pub mod tiles;
 pub mod whole;
 
@@ -19,15 +20,6 @@ pub struct Look {
     pub counter: Cell,
     pub cursor: bool,
     pub blink: bool,
-    pub graphic: bool,
-    pub dark: bool,
-}
-
-// What is done to the dots of one row of a cell, in the order of the fields.
-pub(crate) struct Effects {
-    pub cursor: bool,
-    pub blink: bool,
-    pub reverse: bool,
     pub graphic: bool,
     pub dark: bool,
 }

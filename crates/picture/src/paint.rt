@@ -1,11 +1,15 @@
 // Single bytes of the picture, and the painter of one row of a cell.
 use crate::Look;
 use crate::Pair;
+use crate::shade::both;
 use crate::shade::counter_word;
-use crate::shade::effects;
-use crate::shade::shade;
+use crate::shade::invert;
+use crate::shade::mark;
+use crate::shade::overlay;
+use crate::shown::shown_row;
+use crate::shown::shown_word;
+use crate::shown::word_content;
 use glyph::dots::dot_byte;
-use glyph::lookup::content;
 ghost use mathlib.Core.Path.{_≡_};
 ghost use Prim.Native.Nat.{_<_};
 ghost use lib.ListN.{length};
@@ -27,13 +31,22 @@ pub fn byte_over(graphic: &[u8; 2048], look: Look, row: u32, column: u32, dots: 
     requires { ⌜ (row < 32) × (column < 32) ⌝ }
     ensures { λ r. ⌜ r ≡ byteOver dots (now (graphic .entry)) look row column ⌝ }
 {
-    let s = (row + look.view.scroll as u32) % 64;
-    let word = 16 * (s / 16) + (column / 2 + look.view.shift as u32) % 16;
+    if look.dark {
+        return 0x00;
+    }
+    let s = shown_row(look.view, row);
     let cell = look.counter;
-    let here = word == counter_word(cell);
-    let over = effects(look, s, here);
+    let here = shown_word(look.view, row, column / 2) == counter_word(cell);
+    let cursor = both(look.cursor, s % 16 == 15);
+    let marked = mark(here, cursor, look.blink, dots);
+    let reversed = look.view.reversed;
+    let line = s / 16;
     let place = 32 * s + column;
-    shade(over, dots, graphic[place as usize])
+    overlay(
+        look.graphic,
+        graphic[place as usize],
+        invert(reversed[line as usize], marked),
+    )
 }
 
 // One byte of the glass, with one lookup of its word.
@@ -50,11 +63,9 @@ pub fn byte_at(
     requires { ⌜ (row < 32) × (column < 32) × (length (now half) ≡ 2048) ⌝ }
     ensures { λ r. ⌜ r ≡ byteAt (fonts half full) (before text glyph graphic) look row column ⌝ }
 {
-    let s = (row + look.view.scroll as u32) % 64;
-    let word = 16 * (s / 16) + (column / 2 + look.view.shift as u32) % 16;
-    let at = 2 * (word as usize);
-    let shown = content(text[at], text[at + 1], full.len());
-    let y = s % 16;
+    let word = shown_word(look.view, row, column / 2);
+    let shown = word_content(text, word, full.len());
+    let y = shown_row(look.view, row) % 16;
     let dots = dot_byte(shown, y as usize, column % 2 == 1, glyph, half, full);
     byte_over(graphic, look, row, column, dots)
 }

@@ -1,12 +1,9 @@
 // Cursor, blink, line reverse, graphic and display, in document 01's order.
-use crate::Effects;
-use crate::Look;
 use controller::Cell;
 ghost use mathlib.Core.Path.{_≡_};
 ghost use mathlib.Core.Bool.{_&&_, _||_, not};
-ghost use Prim.Native.Nat.{_<_};
 ghost use Rattle.base.specs.Choice.{if_then_else_};
-ghost use Rattle.picture.specs.Picture.{filled, inverted, overlaid, effectsOf, shaded};
+ghost use Rattle.picture.specs.Picture.{filled, inverted, overlaid};
 ghost use Rattle.picture.specs.Tiles.{counterWord};
 
 // Both flags, as a function, so that the caller has no branch to prove.
@@ -33,23 +30,6 @@ pub(crate) fn counter_word(cell: Cell) -> u32
     }
 }
 
-// What is done on memory row s to the dots of the cell at the counter (`here`), or of another.
-pub(crate) fn effects(look: Look, s: u32, here: bool) -> Effects
-    requires { ⌜ s < 64 ⌝ }
-    ensures { λ r. ⌜ r ≡ effectsOf look s here ⌝ }
-{
-    let view = look.view;
-    let reversed = view.reversed;
-    let line = s / 16;
-    Effects {
-        cursor: both(here, both(look.cursor, s % 16 == 15)),
-        blink: both(here, look.blink),
-        reverse: reversed[line as usize],
-        graphic: look.graphic,
-        dark: look.dark,
-    }
-}
-
 // All ones or none: filling, inverting and overlaying by such masks has no branch, and a whole draw takes a fifth less time for it.
 fn mask(on: bool) -> u8
     ensures { λ r. ⌜ r ≡ (if on then 0xFF else 0x00) ⌝ }
@@ -57,7 +37,7 @@ fn mask(on: bool) -> u8
     if on { 0xFF } else { 0x00 }
 }
 
-fn invert(on: bool, byte: u8) -> u8
+pub(crate) fn invert(on: bool, byte: u8) -> u8
     ensures { λ r. ⌜ r ≡ inverted on byte ⌝ }
 {
     byte ^ mask(on)
@@ -69,21 +49,19 @@ pub(crate) fn overlay(on: bool, dots: u8, byte: u8) -> u8
     byte ^ (dots & mask(on))
 }
 
-// The cursor, and blink over it.
-fn mark(cursor: bool, blink: bool, byte: u8) -> u8
-    ensures { λ r. ⌜ r ≡ inverted blink (filled cursor byte) ⌝ }
+// In the counter's cell (`here`) the cursor, and blink over it.
+pub(crate) fn mark(here: bool, cursor: bool, blink: bool, byte: u8) -> u8
+    ensures { λ r. ⌜ r ≡ inverted (here && blink) (filled (here && cursor) byte) ⌝ }
 {
-    (byte | mask(cursor)) ^ mask(blink)
+    (byte | mask(both(here, cursor))) ^ mask(both(here, blink))
 }
 
-// A cell's byte with everything over it.
-pub(crate) fn shade(effects: Effects, cell: u8, dots: u8) -> u8
-    ensures { λ r. ⌜ r ≡ shaded effects cell dots ⌝ }
+// A byte as it shows: with the graphic over it, or nothing in the dark.
+pub(crate) fn lit(dark: bool, graphic: bool, dots: u8, byte: u8) -> u8
+    ensures { λ r. ⌜ r ≡ (if dark then 0x00 else overlaid graphic dots byte) ⌝ }
 {
-    if effects.dark {
+    if dark {
         return 0x00;
     }
-    let marked = mark(effects.cursor, effects.blink, cell);
-    let line = invert(effects.reverse, marked);
-    overlay(effects.graphic, dots, line)
+    overlay(graphic, dots, byte)
 }

@@ -3,8 +3,9 @@ use crate::Look;
 use crate::Pair;
 use crate::shade::both;
 use crate::shade::counter_word;
-use crate::shade::overlay;
-use glyph::lookup::content;
+use crate::shade::lit;
+use crate::shown::shown_row;
+use crate::shown::word_content;
 use glyph::tile::lay;
 ghost use mathlib.Core.Path.{_≡_};
 ghost use mathlib.Core.Bool.{_&&_, _||_};
@@ -13,8 +14,8 @@ ghost use lib.ListN.{length, getD};
 ghost use lib.Dec.{eqb};
 ghost use Rattle.base.specs.Lists.{upto};
 ghost use Rattle.base.specs.Painting.{painted, everywhere, between};
-ghost use Rattle.picture.specs.Picture.{fonts, overlaid, darkened};
-ghost use Rattle.picture.specs.Tiles.{wordDots, lineWord, tileByte, byTile, pairBy};
+ghost use Rattle.picture.specs.Picture.{fonts};
+ghost use Rattle.picture.specs.Tiles.{wordDots, lineWord, counterTile, tileByte, byTile, underlined, turned, pairBy};
 
 // The word's dots, as the tile that begins at `to`.
 fn lay_word(
@@ -29,8 +30,7 @@ fn lay_word(
     requires { ⌜ (word < 64) × (to + 32 ≤ length (now tiles)) × (length (now half) ≡ 2048) ⌝ }
     ensures { λ _. ⌜ now (tiles .exit) ≡ painted (between to (to + 32) everywhere) (λ i. wordDots (fonts half full) (now (text .entry)) (now (glyph .entry)) word (i - to)) (now (tiles .entry)) ⌝ }
 {
-    let at = 2 * (word as usize);
-    let shown = content(text[at], text[at + 1], full.len());
+    let shown = word_content(text, word, full.len());
     lay(shown, tiles, to, glyph, half, full);
 }
 
@@ -59,7 +59,7 @@ fn lay_words(
 // Cursor sets glyph row 15: the last two bytes of the tile that begins at `at`.
 fn fill_cursor(tiles: &mut [u8], at: usize, on: bool)
     requires { ⌜ at + 32 ≤ length (now tiles) ⌝ }
-    ensures { λ _. ⌜ now (tiles .exit) ≡ painted (λ i. on && (eqb i (at + 30) || eqb i (at + 30 + 1))) (λ i. 0xFF) (now (tiles .entry)) ⌝ }
+    ensures { λ _. ⌜ now (tiles .exit) ≡ underlined on at (now (tiles .entry)) ⌝ }
 {
     if on {
         let last = at + 30;
@@ -83,11 +83,29 @@ fn invert(tiles: &mut [u8], from: u32, to: u32)
 // Blink and line reverse invert.
 fn invert_if(tiles: &mut [u8], from: u32, to: u32, on: bool)
     requires { ⌜ (from ≤ to) × (to ≤ length (now tiles)) ⌝ }
-    ensures { λ _. ⌜ now (tiles .exit) ≡ painted (λ i. on && between from to everywhere i) (λ i. 0xFF - getD (now (tiles .entry)) i 0) (now (tiles .entry)) ⌝ }
+    ensures { λ _. ⌜ now (tiles .exit) ≡ turned on from to (now (tiles .entry)) ⌝ }
 {
     if on {
         invert(tiles, from, to);
     }
+}
+
+// The cursor and blink over the tile that begins at `at`, then line reverse over all tiles up to `end`.
+fn mark(tiles: &mut [u8], at: u32, end: u32, cursor: bool, blink: bool, reverse: bool)
+    requires { ⌜ (at + 32 ≤ end) × (end ≤ length (now tiles)) ⌝ }
+    ensures { λ _. ⌜ now (tiles .exit) ≡ turned reverse 0 end (turned blink at (at + 32) (underlined cursor at (now (tiles .entry)))) ⌝ }
+{
+    fill_cursor(tiles, at as usize, cursor);
+    invert_if(tiles, at, at + 32, blink);
+    invert_if(tiles, 0, end, reverse);
+}
+
+// Where the tile of the counter's word begins among those of its line.
+fn counter_tile(counter: u32, shift: u32) -> u32
+    requires { ⌜ shift < 256 ⌝ }
+    ensures { λ r. ⌜ r ≡ counterTile counter shift ⌝ }
+{
+    32 * ((counter % 16 + 256 - shift) % 16)
 }
 
 // All sixteen tiles of a line, with everything over them but the graphic.
@@ -107,12 +125,17 @@ pub(crate) fn lay_line(
     let cell = look.counter;
     let counter = counter_word(cell);
     let here = counter / 16 == line;
-    let at = 32 * ((counter % 16 + 256 - shift) % 16);
+    let at = counter_tile(counter, shift);
     let reversed = look.view.reversed;
     lay_words(text, glyph, shift, line, tiles, half, full);
-    fill_cursor(tiles, at as usize, both(here, look.cursor));
-    invert_if(tiles, at, at + 32, both(here, look.blink));
-    invert_if(tiles, 0, 512, reversed[line as usize]);
+    mark(
+        tiles,
+        at,
+        512,
+        both(here, look.cursor),
+        both(here, look.blink),
+        reversed[line as usize],
+    );
 }
 
 // The tile of one word, likewise.
@@ -133,27 +156,22 @@ pub fn lay_tile(
     let reversed = look.view.reversed;
     let line = word / 16;
     lay_word(text, glyph, word, tile, 0, half, full);
-    fill_cursor(tile, 0, both(here, look.cursor));
-    invert_if(tile, 0, 32, both(here, look.blink));
-    invert_if(tile, 0, 32, reversed[line as usize]);
-}
-
-// A tile's byte as it shows: with the graphic over it, or nothing in the dark.
-fn lit(dark: bool, graphic: bool, dots: u8, byte: u8) -> u8
-    ensures { λ r. ⌜ r ≡ darkened dark (overlaid graphic dots byte) ⌝ }
-{
-    if dark {
-        return 0x00;
-    }
-    overlay(graphic, dots, byte)
+    mark(
+        tile,
+        0,
+        32,
+        both(here, look.cursor),
+        both(here, look.blink),
+        reversed[line as usize],
+    );
 }
 
 // The two bytes that a cell's tile shows on a row of the glass.
-pub fn tile_pair(tile: &[u8], graphic: &[u8; 2048], look: Look, row: u32, cell: u32) -> Pair
-    requires { ⌜ (row < 32) × (cell < 16) × (length (now tile) ≡ 32) ⌝ }
+pub fn tile_pair(tile: &[u8; 32], graphic: &[u8; 2048], look: Look, row: u32, cell: u32) -> Pair
+    requires { ⌜ (row < 32) × (cell < 16) ⌝ }
     ensures { λ r. ⌜ r ≡ pairBy (now (tile .entry)) (now (graphic .entry)) look row cell ⌝ }
 {
-    let s = (row + look.view.scroll as u32) % 64;
+    let s = shown_row(look.view, row);
     let at = 2 * ((s % 16) as usize);
     let place = 32 * (s as usize) + 2 * (cell as usize);
     Pair {

@@ -1,5 +1,6 @@
 // The whole picture: band by band, each the rows of the glass that show one line of text. A line's cells are looked up once.
 use crate::Look;
+use crate::shown::shown_row;
 use crate::tiles::lay_line;
 ghost use mathlib.Core.Path.{_≡_};
 ghost use mathlib.Core.Bool.{false};
@@ -26,8 +27,8 @@ fn clear(frame: &mut [u8])
 }
 
 // Row y of each tile of the line goes to row `row` of the glass.
-fn hand_row(tiles: &[u8], y: u32, row: u32, frame: &mut [u8])
-    requires { ⌜ (y < 16) × (row < 32) × (length (now tiles) ≡ 512) × (length (now frame) ≡ 1024) ⌝ }
+fn hand_row(tiles: &[u8; 512], y: u32, row: u32, frame: &mut [u8])
+    requires { ⌜ (y < 16) × (row < 32) × (length (now frame) ≡ 1024) ⌝ }
     ensures { λ _. ⌜ now (frame .exit) ≡ painted (between (32 * row) (32 * row + 32) everywhere) (fromTiles (now (tiles .entry)) y) (now (frame .entry)) ⌝ }
 {
     let mut cell: u32 = 0;
@@ -44,8 +45,8 @@ fn hand_row(tiles: &[u8], y: u32, row: u32, frame: &mut [u8])
 }
 
 // The rows of the glass from `row` up to `end` show the line's rows from y on.
-fn hand_out(tiles: &[u8], scroll: u32, row: u32, end: u32, frame: &mut [u8])
-    requires { ⌜ (scroll < 256) × (row ≤ end) × (end ≤ 32) × (length (now tiles) ≡ 512) × (length (now frame) ≡ 1024) ⌝ }
+fn hand_out(tiles: &[u8; 512], scroll: u32, row: u32, end: u32, frame: &mut [u8])
+    requires { ⌜ (scroll < 256) × (row ≤ end) × (end ≤ 32) × (length (now frame) ≡ 1024) ⌝ }
     ensures { λ _. ⌜ now (frame .exit) ≡ painted (between (32 * row) (32 * end) everywhere) (λ i. fromTiles (now (tiles .entry)) ((i / 32 + scroll) % 16) i) (now (frame .entry)) ⌝ }
 {
     let mut r = row;
@@ -80,6 +81,7 @@ fn overlay_if(graphic: &[u8; 2048], from: usize, frame: &mut [u8], to: usize, co
 // The row after those that show the same line as row `row`, which shows memory row s.
 fn band_end(row: u32, s: u32) -> u32
     requires { ⌜ row < 32 ⌝ }
+    ensures within { λ r. ⌜ (row < r) × (r ≤ 32) × (r + s % 16 ≤ row + 16) ⌝ }
     ensures { λ r. ⌜ r ≡ bandEnd row s ⌝ }
 {
     let end = row + 16 - s % 16;
@@ -102,7 +104,7 @@ fn paint_band(
     ensures { λ r. ⌜ now (frame .exit) ≡ paintedOn wide (inRows row r) (byteAt (fonts half full) (before text glyph graphic) look) (now (frame .entry)) ⌝ }
 {
     let scroll = look.view.scroll as u32;
-    let s = (row + scroll) % 64;
+    let s = shown_row(look.view, row);
     let end = band_end(row, s);
     let mut tiles = [0u8; 512];
     lay_line(text, glyph, look, s / 16, &mut tiles, half, full);

@@ -24,6 +24,6 @@ module _ (e : Seen) where
   pub not-full : (c : List ℕ) (s : State) (f : List ℕ) (n : ℕ) → replayed e endless c s f n .ending .full ≡ false
   unfolding replayed
   not-full c s f n =
-      either (λ (x : Replayed). x .ending .full ≡ false) (eqb (refusalOf (length f) (length (e .half)) (length (e .full))) 0)
+      either (λ (x : Replayed). x .ending .full ≡ false) (eqb (refusalOf (length f) (length (e .fonts .half)) (length (e .fonts .full))) 0)
       (records-not-full (number (contents c .stop)) (contents c .records) s f n)
       refl

@@ -113,7 +113,7 @@ module _ (e : Seen) (telling : Bool) (c : List ℕ) (s₀ : State) (f₀ : List 
   abbrev pub Leaves : Told → Type 0
   Leaves r = r ≡ told telling n₀ text₀ whole
 
-  module _ (m : ℕ) (is : m ≡ refusalOf (length f₀) (length (e .half)) (length (e .full))) where
+  module _ (m : ℕ) (is : m ≡ refusalOf (length f₀) (length (e .fonts .half)) (length (e .fonts .full))) where
     none-told : toldBy telling (lines n₀ []) ≡ []
     unfolding lines
     none-told = by telling
@@ -143,7 +143,7 @@ module _ (e : Seen) (telling : Bool) (c : List ℕ) (s₀ : State) (f₀ : List 
 
   pub begins :
       (m : ℕ)
-      → m ≡ refusalOf (length f₀) (length (e .half)) (length (e .full))
+      → m ≡ refusalOf (length f₀) (length (e .fonts .half)) (length (e .fonts .full))
       → m ≡ 0
       → Valid s₀
       → Going s₀ f₀ n₀ 0 0 0 text₀ 0

@@ -131,7 +131,7 @@ module _ (e : Seen) where
   -- where frame and fonts are not refused, nothing is asked of them again
   let-in-again :
       (room : Room) (n : ℕ) (more : List ℕ) (f : List ℕ) (r : Replayed)
-      → eqb (refusalOf (length f) (length (e .half)) (length (e .full))) 0 ≡ true
+      → eqb (refusalOf (length f) (length (e .fonts .half)) (length (e .fonts .full))) 0 ≡ true
       → length (r .ending .frame) ≡ length f
       → goneOver room n (contents more) r ≡ goneOn e room n more r
   unfolding replayed
@@ -139,10 +139,10 @@ module _ (e : Seen) where
 
 pub parts-replay-as-whole : PartsReplayAsWhole
 unfolding replayed
-parts-replay-as-whole e room part more s f n h = by (eqb (refusalOf (length f) (length (e .half)) (length (e .full))) 0) refl
+parts-replay-as-whole e room part more s f n h = by (eqb (refusalOf (length f) (length (e .fonts .half)) (length (e .fonts .full))) 0) refl
   where
     m : ℕ
-    m = refusalOf (length f) (length (e .half)) (length (e .full))
+    m = refusalOf (length f) (length (e .fonts .half)) (length (e .fonts .full))
 
     x : Contents
     x = contents part
@@ -176,7 +176,7 @@ module _ (e : Seen) where
       → replayed e room c s f n .ending .place ≡ n + length (replayed e room c s f n .answers)
   unfolding replayed
   replayed-place room c s f n =
-      either (λ (x : Replayed). x .ending .place ≡ n + length (x .answers)) (eqb (refusalOf (length f) (length (e .half)) (length (e .full))) 0)
+      either (λ (x : Replayed). x .ending .place ≡ n + length (x .answers)) (eqb (refusalOf (length f) (length (e .fonts .half)) (length (e .fonts .full))) 0)
       (records-place (number (contents c .stop)) room (contents c .records) s f n)
       (omega arith)
 

@@ -50,5 +50,5 @@ module _ (e : Seen) (last : ℕ) where
 pub room-tells-all : RoomTellsAll
 unfolding replayed
 room-tells-all e room capture s f n h l =
-    ap (λ (r : Replayed). if eqb (refusalOf (length f) (length (e .half)) (length (e .full))) 0 then r else halted s f n (refusalOf (length f) (length (e .half)) (length (e .full))) false)
+    ap (λ (r : Replayed). if eqb (refusalOf (length f) (length (e .fonts .half)) (length (e .fonts .full))) 0 then r else halted s f n (refusalOf (length f) (length (e .fonts .half)) (length (e .fonts .full))) false)
     (roomy e (number (contents capture .stop)) room (contents capture .records) s f n h l)

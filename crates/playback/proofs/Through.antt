@@ -63,9 +63,9 @@ pub went-through :
 unfolding replayed
 went-through e room c s f n =
     either-told (λ (r : Replayed). r .ending .number ≡ 0 → r .ending .full ≡ false → r .ending .place ≡ n + length c / 4)
-    (eqb (refusalOf (length f) (length (e .half)) (length (e .full))) 0)
+    (eqb (refusalOf (length f) (length (e .fonts .half)) (length (e .fonts .full))) 0)
     (λ t z q. let all = all-replayed e (number (contents c .stop)) room (contents c .records) s f n z q in omega (arith, all .1, all-read c (all .0)))
-    (λ t z q. absurd (eqb-false (refusalOf (length f) (length (e .half)) (length (e .full))) 0 t z))
+    (λ t z q. absurd (eqb-false (refusalOf (length f) (length (e .fonts .half)) (length (e .fonts .full))) 0 t z))
 
 -- and so has a transcript
 pub told-through :

@@ -97,7 +97,7 @@ one-counts (received.Byte register byte ∷ xs) (n ∷ ns) c h l k is =
 
 module _ (e : Seen) where
   abbrev Fits : List ℕ → Type 0
-  Fits f = eqb (refusalOf (length f) (length (e .half)) (length (e .full))) 0 ≡ true
+  Fits f = eqb (refusalOf (length f) (length (e .fonts .half)) (length (e .fonts .full))) 0 ≡ true
 
   in-turn-sum : (reply : ℕ) (s : State) (f : List ℕ) (events : List Event) → calledOn e reply s f events .count ≡ sum (countsInTurn e s f events)
   unfolding calledOn countsInTurn sum
@@ -178,11 +178,11 @@ module _ (e : Seen) where
     by-link :
         (f : List ℕ) (t : Bool)
         → length bs ≤ 15
-        → eqb (refusalOf (length f) (length (e .half)) (length (e .full))) 0 ≡ t
+        → eqb (refusalOf (length f) (length (e .fonts .half)) (length (e .fonts .full))) 0 ≡ t
         → (l : Link)
         → OneCounts (counts l f) (count l f)
     unfolding called takenBy
-    by-link f false few q l = refused-once (state m c l) f (refusalOf (length f) (length (e .half)) (length (e .full))) q (λ b. rw q) b bs
+    by-link f false few q l = refused-once (state m c l) f (refusalOf (length f) (length (e .fonts .half)) (length (e .fonts .full))) q (λ b. rw q) b bs
     by-link f true few q (Parallel p) = refused-once (state m c (Parallel p)) f 5 refl (λ b. rw q) b bs
     by-link f true few q (Serial r) = heard-once r f few q
 

@@ -42,14 +42,14 @@ fn run_end(scroll: u32, line: u32) -> u32
 
 // One row of one cell: the row painter is lent its two bytes, a part from the middle of the frame.
 fn paint_cell_row(
-    tile: &[u8],
+    tile: &[u8; 32],
     graphic: &[u8; 2048],
     look: Look,
     row: u32,
     cell: u32,
     frame: &mut [u8],
 )
-    requires { ⌜ (row < 32) × (cell < 16) × (length (now tile) ≡ 32) × (length (now frame) ≡ 1024) ⌝ }
+    requires { ⌜ (row < 32) × (cell < 16) × (length (now frame) ≡ 1024) ⌝ }
     ensures { λ _. ⌜ now (frame .exit) ≡ paintedOn wide (inCellRow row cell) (shownBy (now (tile .entry)) (now (graphic .entry)) look) (now (frame .entry)) ⌝ }
 {
     let pair = tile_pair(tile, graphic, look, row, cell);
@@ -60,7 +60,7 @@ fn paint_cell_row(
 
 // A cell on the rows from `first` up to `end`.
 fn paint_rows(
-    tile: &[u8],
+    tile: &[u8; 32],
     graphic: &[u8; 2048],
     look: Look,
     cell: u32,
@@ -68,7 +68,7 @@ fn paint_rows(
     end: u32,
     frame: &mut [u8],
 ) -> u32
-    requires { ⌜ (cell < 16) × (first ≤ end) × (end ≤ 32) × (length (now tile) ≡ 32) × (length (now frame) ≡ 1024) ⌝ }
+    requires { ⌜ (cell < 16) × (first ≤ end) × (end ≤ 32) × (length (now frame) ≡ 1024) ⌝ }
     ensures { λ r. ⌜ painting r (now (frame .exit)) ≡ paintsOn wide (rows first end (inColumns cell)) (shownBy (now (tile .entry)) (now (graphic .entry)) look) (now (frame .entry)) ⌝ }
 {
     let mut count: u32 = 0;

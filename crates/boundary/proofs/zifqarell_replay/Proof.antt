@@ -11,7 +11,7 @@ zifqarell-replay-spec =
     (λ c κs. search needs)
     (λ c.
     let lent = c .before .before .before .before .before .before .args in
-    turned-away _ (record { half = lent .half .now; full = lent .full .now; phase = lent .phase }) _ _ _ _ _ (c .before .refusal .ensures) (c .if1 .taken))
+    turned-away _ (record { fonts = record { half = lent .half .now; full = lent .full .now }; phase = lent .phase }) _ _ _ _ _ (c .before .refusal .ensures) (c .if1 .taken))
     (λ c κs. search needs)
     (λ c κs. search needs)
     (λ c κs. search needs)
@@ -21,6 +21,6 @@ zifqarell-replay-spec =
     let at-replay = c .before .before .before .before .before .before in
     let at-fresh = at-replay .before .before in
     let lent = at-fresh .before .before .before .before .before .before .before .args in
-    told _ (record { half = lent .half .now; full = lent .full .now; phase = lent .phase }) _ _ _ _ _
+    told _ (record { fonts = record { half = lent .half .now; full = lent .full .now }; phase = lent .phase }) _ _ _ _ _
     (at-fresh .before .before .refusal .ensures) (at-fresh .before .if1 .left) (at-fresh .fresh .ensures .0) (at-replay .replay .ensures .0)
     (c .before .spell-state .ensures) (c .last-bytes .ensures)))

@@ -8,7 +8,7 @@ use Rattle.records.proofs.eight_bits.Tie as tie
 
 abbrev Inv-loop : tie.InvT-loop
 Inv-loop value frame₀ half full phase next₀ reply₀ count₀ left₀ frame next reply count left =
-    Hearing (record { half = half; full = full; phase = phase }) value reply₀ count₀ (stateOf next₀) frame₀ left reply count (stateOf next) frame
+    Hearing (record { fonts = record { half = half; full = full }; phase = phase }) value reply₀ count₀ (stateOf next₀) frame₀ left reply count (stateOf next) frame
 
 abbrev μ-loop : tie.MeasureT-loop
 μ-loop value frame₀ half full phase next₀ reply₀ count₀ left₀ frame next reply count left = left

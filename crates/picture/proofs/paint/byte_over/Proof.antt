@@ -1,6 +1,6 @@
--- The dots shaded, with what is done to them at this word.
+-- Nothing in the dark; else the dots marked, inverted and overlaid.
 use borrow.Author.Needs.{needs}
-use Rattle.picture.proofs.Bytes.{over-dots}
+use Rattle.picture.proofs.Bytes.{dark-byte, over-dots}
 use Rattle.picture.proofs.paint.byte_over.Statement.{statement}
 use Rattle.picture.proofs.paint.byte_over.Tie as tie
 
@@ -8,6 +8,12 @@ pub byte-over-spec : {M : Type 1} → statement M
 byte-over-spec =
     tie.close
     (tie.spec
+    (λ c. let a = c .before .args in dark-byte (a .look) (a .row) (a .column) (a .graphic .now) (a .dots) (c .if1 .taken))
+    (λ c κs. search needs)
+    (λ c κs. search needs)
+    (λ c κs. search needs)
+    (λ c κs. search needs)
+    (λ c κs. search needs)
     (λ c. search needs)
     (λ c. search needs)
     (λ c. search needs)
@@ -16,9 +22,6 @@ byte-over-spec =
     (λ c. search needs)
     (λ c κs. search needs)
     (λ c κs. search needs)
-    (λ c. search needs)
-    (λ c. search needs)
-    (λ c. search needs)
-    (λ c. search needs)
-    (λ c κs. search needs)
-    (λ c. rw (c .shade .ensures, c .before .before .effects .ensures, c .before .before .before .counter-word .ensures) (over-dots _ _ _ _ _)))
+    (λ c. let marks = c .before .before .before .before in let here = marks .before .before in let test = here .before .before .before in let a = test .before .args in
+    over-dots (a .look) (a .row) (a .column) (a .graphic .now) _ _ _ (a .dots) _ _ _ _ (here .before .before .shown-row .ensures .1) (here .before .shown-word .ensures .1) (here .counter-word .ensures)
+    (marks .before .both .ensures) (marks .mark .ensures) (c .before .invert .ensures) (test .if1 .left) (c .overlay .ensures)))

@@ -1,5 +1,6 @@
 -- Two masks, one over the other.
 use borrow.Author.Needs.{needs}
+use mathlib.Core.Bool.{_&&_}
 use Rattle.picture.proofs.Masks.{masks-mark}
 use Rattle.picture.proofs.shade.mark.Statement.{statement}
 use Rattle.picture.proofs.shade.mark.Tie as tie
@@ -10,4 +11,7 @@ mark-spec =
     (tie.spec
     (λ c κs. search needs)
     (λ c κs. search needs)
-    (λ c. let a = c .before .before .args in rw (c .before .mask .ensures, c .mask2 .ensures) (masks-mark (a .cursor) (a .blink) (a .byte) (search needs))))
+    (λ c κs. search needs)
+    (λ c κs. search needs)
+    (λ c. let two = c .before .before in let a = two .before .before .args in
+    rw (c .mask2 .ensures, c .before .both2 .ensures, two .mask .ensures, two .before .both .ensures) (masks-mark (a .here && a .cursor) (a .here && a .blink) (a .byte) (search needs))))

@@ -1,7 +1,5 @@
--- Stage by stage.
+-- The word laid, and marked.
 use borrow.Author.Needs.{needs}
-use Prim.Native.Nat.{_-_}
-use mathlib.Core.Path.{_∙_}
 use Rattle.picture.proofs.Laid.{tile-marked}
 use Rattle.base.proofs.Copies.{whole-stretch}
 use Rattle.picture.proofs.tiles.lay_tile.Statement.{statement}
@@ -15,10 +13,11 @@ lay-tile-spec =
     (λ c κs. search needs)
     (λ c κs. search needs)
     (λ c κs. search needs)
-    (λ c κs. search needs)
-    (λ c κs. search needs)
     (λ c. search needs)
     (λ c. search needs)
     (λ c κs. search needs)
     (λ c. search needs)
-    (λ c. let a = c .before .before .before .before .before .before .before .before .before .before .before .before .before .before .before .before .before .before .before .before .before .before .before .args in tile-marked (record { half = a .half .now; full = a .full .now }) (a .text .now) (a .glyph .now) (a .look) (a .word) (c .before .before .before .before .before .before .before .before .before .before .before .before .before .before .before .before .before .before .before .before .before .before .before .pre .0) _ _ _ _ (whole-stretch 32 _ _ _ (c .before .before .before .before .before .before .before .before .before .before .before .before .before .before .before .before .before .before .before .before .before .before .before .pre .1) (c .before .before .before .before .before .before .before .before .before .before .before .before .before .before .before .before .lay-word .ensures)) (rw (c .before .before .before .before .before .before .before .before .before .before .before .before .both .ensures, c .before .before .before .before .before .before .before .before .before .before .before .before .before .before .before .before .before .before .before .counter-word .ensures) at (c .before .before .before .before .before .before .before .before .before .before .before .fill-cursor .ensures)) (rw (c .before .before .before .before .before .before .before .both2 .ensures, c .before .before .before .before .before .before .before .before .before .before .before .before .before .before .before .before .before .before .before .counter-word .ensures) at (c .before .before .before .before .before .before .invert-if .ensures)) (c .before .before .invert-if2 .ensures)))
+    (λ c. let marks = c .before .before in let laid = marks .before .before .before .before .before .before in let here = laid .before .before .before in let start = here .before .before .before .before in
+    let a = start .args in
+    tile-marked (record { half = a .half .now; full = a .full .now }) (a .text .now) (a .glyph .now) (a .look) (a .word) (start .pre .0) _ _ _ _ _
+    (whole-stretch 32 _ _ _ (start .pre .1) (laid .lay-word .ensures)) (here .counter-word .ensures) (marks .before .before .both .ensures) (marks .before .both2 .ensures) (marks .mark .ensures)))

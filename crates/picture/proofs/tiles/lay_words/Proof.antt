@@ -8,7 +8,6 @@ use Rattle.base.specs.Painting.{painted, everywhere, between}
 use Rattle.base.proofs.Loops.{paint-begin, paint-every}
 use Rattle.picture.specs.Tiles.{wordDots, lineWord, byTile}
 use Rattle.picture.proofs.Laid.{words-turn}
-use Rattle.base.proofs.Painting.{as-long}
 use Rattle.picture.proofs.tiles.lay_words.Statement.{statement}
 use Rattle.picture.proofs.tiles.lay_words.Tie as tie
 
@@ -33,6 +32,6 @@ lay-words-spec =
     (λ c κs. search needs)
     (λ c. search needs)
     (λ c. search needs)
-    (λ c. let l = c .before .before .before .before .before .loop in let a = c .before .before .before .before .before .before .before .before .before .args in let e = c .before .before .lay-word .ensures in (search needs, as-long _ _ _ _ e ∙ l .inv .1, words-turn (λ k j. wordDots (record { half = a .half .now; full = a .full .now }) (a .text .now) (a .glyph .now) (lineWord (a .shift) (a .line) k) j) _ _ _ _ (l .inv .2) e))
+    (λ c. let l = c .before .before .before .before .before .loop in let a = c .before .before .before .before .before .before .before .before .before .args in let e = c .before .before .lay-word .ensures in let t = words-turn (λ k j. wordDots (record { half = a .half .now; full = a .full .now }) (a .text .now) (a .glyph .now) (lineWord (a .shift) (a .line) k) j) (l .cell) (a .tiles .now) (l .tiles) _ (l .inv .2) e in (search needs, t .0 ∙ l .inv .1, t .1))
     (λ c. search needs)
     (λ c. let l = c .before .loop in let k : 32 * l .cell ≡ 512 = omega arith in paint-every _ _ _ 512 (c .before .before .before .before .before .pre .2) (rw k at (l .inv .2))))

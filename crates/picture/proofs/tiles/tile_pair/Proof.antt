@@ -9,8 +9,7 @@ pub tile-pair-spec : {M : Type 1} → statement M
 tile-pair-spec =
     tie.close
     (tie.spec
-    (λ c. search needs)
-    (λ c. search needs)
+    (λ c κs. search needs)
     (λ c. search needs)
     (λ c. search needs)
     (λ c. search needs)
@@ -25,4 +24,5 @@ tile-pair-spec =
     (λ c. search needs)
     (λ c. search needs)
     (λ c κs. search needs)
-    (λ c. let a = c .before .before .before .before .before .before .before .before .args in ap₂ pairOf (c .before .before .before .lit .ensures) (c .lit2 .ensures) ∙ pair-shown-by (a .tile .now) (a .graphic .now) (a .look) (a .row) (a .cell)))
+    (λ c. let left = c .before .before .before in let s = left .before .before .before in let a = s .before .args in
+    ap₂ pairOf (left .lit .ensures) (c .lit2 .ensures) ∙ rw (s .shown-row .ensures .1) (pair-shown-by (a .tile .now) (a .graphic .now) (a .look) (a .row) (a .cell))))

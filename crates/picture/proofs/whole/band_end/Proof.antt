@@ -12,5 +12,5 @@ band-end-spec =
     (tie.spec
     (λ c. search needs)
     (λ c. search needs)
-    (λ c. simp (lt-ltb _ _ (c .if1 .taken)))
-    (λ c. simp (le-ltb _ _ (c .if1 .left))))
+    (λ c. ((search needs, search needs, search needs), simp (lt-ltb _ _ (c .if1 .taken))))
+    (λ c. ((search needs, search needs, search needs), simp (le-ltb _ _ (c .if1 .left)))))

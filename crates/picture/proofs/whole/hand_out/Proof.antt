@@ -29,6 +29,6 @@ hand-out-spec =
     (λ c κs. search needs)
     (λ c. search needs)
     (λ c. search needs)
-    (λ c. let l = c .before .before .before .before .before .loop in let a = c .before .before .before .before .before .before .before .before .args in let e = c .before .before .hand-row .ensures in (search needs, search needs, as-long _ _ _ _ e ∙ l .inv .2, out-turn (a .tiles .now) (a .scroll) (a .row) (l .r) (a .frame .now) _ _ (l .inv .0) (l .inv .3) e))
+    (λ c. let l = c .before .before .before .before .before .loop in let a = c .before .before .before .before .before .before .before .args in let e = c .before .before .hand-row .ensures in (search needs, search needs, as-long _ _ _ _ e ∙ l .inv .2, out-turn (a .tiles .now) (a .scroll) (a .row) (l .r) (a .frame .now) _ _ (l .inv .0) (l .inv .3) e))
     (λ c. search needs)
-    (λ c. let l = c .before .loop in let k : l .r ≡ c .before .before .before .before .args .end = omega arith in rw k at (l .inv .3)))
+    (λ c. let l = c .before .loop in let k : l .r ≡ c .before .before .before .args .end = omega arith in rw k at (l .inv .3)))

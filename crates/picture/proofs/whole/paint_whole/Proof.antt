@@ -5,7 +5,6 @@ use Prim.Native.Nat.{_-_, _≤_}
 use lib.ListN.{length}
 use mathlib.Core.Path.{_≡_, _∙_}
 use Rattle.base.specs.Layout.{paintedOn}
-use Rattle.base.proofs.Painting.{as-long}
 use Rattle.controller.specs.Memories.{memories}
 use Rattle.picture.specs.Picture.{byteAt, wide, picture}
 use Rattle.picture.specs.Tiles.{inRows}
@@ -33,6 +32,6 @@ paint-whole-spec =
     (λ c. (search needs, search needs, bands-begin (byteAt _ _ _) _))
     (λ c κs. (c .before .before .before .if1 .left, search needs, search needs, search needs))
     (λ c. let e = c .before .before .paint-band .ensures .0 in omega arith)
-    (λ c. let l = c .before .before .before .before .before .loop in let e = c .before .before .paint-band .ensures in (e .0 .1, as-long _ _ _ _ (e .1) ∙ l .inv .1, bands-turn (byteAt _ _ _) _ _ _ _ _ (e .0 .0) (l .inv .2) (e .1)))
+    (λ c. let l = c .before .before .before .before .before .loop in let e = c .before .before .paint-band .ensures in let t = bands-turn (byteAt _ _ _) (l .row) _ _ (l .frame) _ (e .0 .0) (l .inv .2) (e .1) in (e .0 .1, t .0 ∙ l .inv .1, t .1))
     (λ c. search needs)
     (λ c. let l = c .before .loop in let k : l .row ≡ 32 = omega arith in bands-end (byteAt _ _ _) _ _ _ k (c .before .before .before .before .before .before .pre .0) (l .inv .2)))

@@ -17,7 +17,7 @@ use Rattle.playback.proofs.replaying.run.Tie as tie
 
 abbrev Inv-loop : tie.InvT-loop
 Inv-loop place capture frame₀ half full phase text₀ telling number next₀ reached₀ reply₀ count₀ filled₀ at₀ frame text next reached reply count filled at =
-    Going (record { half = half; full = full; phase = phase }) telling capture (stateOf next₀) frame₀ reached₀ text₀ (stateOf next) frame reached at reply count text filled
+    Going (record { fonts = record { half = half; full = full }; phase = phase }) telling capture (stateOf next₀) frame₀ reached₀ text₀ (stateOf next) frame reached at reply count text filled
 
 abbrev μ-loop : tie.MeasureT-loop
 μ-loop place capture frame₀ half full phase text₀ telling number next₀ reached₀ reply₀ count₀ filled₀ at₀ frame text next reached reply count filled at = length capture - at
@@ -34,7 +34,7 @@ run-spec =
     μ-loop
     (λ c κs. search needs)
     (λ c. let a = c .before .before .before .before .before .before .before .args in
-    (turned-away (record { half = a .half .now; full = a .full .now; phase = a .phase }) (a .telling) (a .capture .now) _ _ _ _ _ (c .before .refusal .ensures) (c .if1 .taken), (c .before .before .before .before .before .before .before .pre .0, (omega arith, refl))))
+    (turned-away (record { fonts = record { half = a .half .now; full = a .full .now }; phase = a .phase }) (a .telling) (a .capture .now) _ _ _ _ _ (c .before .refusal .ensures) (c .if1 .taken), (c .before .before .before .before .before .before .before .pre .0, (omega arith, refl))))
     (λ c. begins _ _ _ _ _ _ _ _ (c .before .refusal .ensures) (c .if1 .left) (c .before .before .before .before .before .before .before .pre .0))
     (λ c κs. search needs)
     (λ c. search needs)

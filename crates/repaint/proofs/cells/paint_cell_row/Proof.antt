@@ -24,4 +24,5 @@ paint-cell-row-spec =
     (λ c. search needs)
     (λ c κs. search needs)
     (λ c. search needs)
-    (λ c. let a = c .before .before .before .before .before .before .before .args in let p = c .before .before .before .before .before .before .before .pre in let h : 32 * a .row + 2 * a .cell + 2 ≤ length (a .frame .now) = omega arith in rw (c .before .before .paint-row .ensures, c .before .before .before .before .tile-pair .ensures) (put-pair _ _ _ _ h ∙ cell-row-painted (shownBy (a .tile .now) (a .graphic .now) (a .look)) _ _ _ (p .0) (p .1) (p .3))))
+    (λ c. let paired = c .before .before .before .before in let start = paired .before .before in let a = start .args in let p = start .pre in let b = shownBy (a .tile .now) (a .graphic .now) (a .look) in let h : 32 * a .row + 2 * a .cell + 2 ≤ length (a .frame .now) = omega arith in
+    rw (c .before .before .paint-row .ensures, paired .tile-pair .ensures) (put-pair (32 * a .row + 2 * a .cell) (a .frame .now) (b (a .row) (2 * a .cell)) (b (a .row) (2 * a .cell + 1)) h ∙ cell-row-painted b (a .row) (a .cell) (a .frame .now) (p .0) (p .1) (p .2))))

@@ -31,6 +31,6 @@ paint-rows-spec =
     (λ c. let y = paints-le 1024 _ _ _ _ _ (c .before .before .before .before .before .loop .inv .4) in omega arith)
     (λ c. search needs)
     (λ c. search needs)
-    (λ c. let l = c .before .before .before .before .before .loop in let e = c .before .before .paint-cell-row .ensures in let p = c .before .before .before .before .before .before .before .before .pre in (search needs, search needs, omega arith, as-long _ _ _ _ e ∙ l .inv .3, cell-rows-turn (shownBy _ _ _) _ _ _ _ _ _ _ (omega arith) (p .0) (l .inv .0) (l .inv .4) e))
+    (λ c. let l = c .before .before .before .before .before .loop in let e = c .before .before .paint-cell-row .ensures in let p = c .before .before .before .before .before .before .before .pre in (search needs, search needs, omega arith, as-long _ _ _ _ e ∙ l .inv .3, cell-rows-turn (shownBy _ _ _) _ _ _ _ _ _ _ (omega arith) (p .0) (l .inv .0) (l .inv .4) e))
     (λ c. search needs)
-    (λ c. let l = c .before .loop in let k : l .row ≡ c .before .before .before .before .args .end = omega arith in rw k at (l .inv .4)))
+    (λ c. let l = c .before .loop in let k : l .row ≡ c .before .before .before .args .end = omega arith in rw k at (l .inv .4)))

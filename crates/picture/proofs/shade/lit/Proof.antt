@@ -1,7 +1,7 @@
 -- Nothing shows in the dark.
 use borrow.Author.Needs.{needs}
-use Rattle.picture.proofs.tiles.lit.Statement.{statement}
-use Rattle.picture.proofs.tiles.lit.Tie as tie
+use Rattle.picture.proofs.shade.lit.Statement.{statement}
+use Rattle.picture.proofs.shade.lit.Tie as tie
 
 pub lit-spec : {M : Type 1} → statement M
 lit-spec =
