@@ -31,7 +31,7 @@ pub extern "C" fn zifqarell_draw(
     ensures { λ r. ⌜ drawing r (now (frame .exit)) ≡ drawn (seen half full phase) (before text glyph graphic) (unpacked (now (control .entry))) (now (frame .entry)) ⌝ }
 {
     let control = unpack(control);
-    picture::draw::draw(text, glyph, graphic, control, frame, half, full, phase)
+    drawing::draw(text, glyph, graphic, control, frame, half, full, phase)
 }
 
 // Puts the three bytes that carry a write over the serial link into the buffer, and answers 0 or the refusal's number.

@@ -141,6 +141,6 @@ impl Panel {
         let glyph = self.glyph;
         let graphic = self.graphic;
         let control = self.control;
-        picture::draw::draw(&text, &glyph, &graphic, control, frame, half, full, phase)
+        drawing::draw(&text, &glyph, &graphic, control, frame, half, full, phase)
     }
 }

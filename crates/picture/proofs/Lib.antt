@@ -4,4 +4,3 @@ pub mod Wide
 pub mod Bytes
 pub mod Accepted
 pub mod Masks
-pub mod Laid

@@ -7,7 +7,7 @@ ghost use Rattle.picture.specs.Picture.{filled, inverted, overlaid};
 ghost use Rattle.picture.specs.Tiles.{counterWord};
 
 // Both flags, as a function, so that the caller has no branch to prove.
-pub(crate) fn both(a: bool, b: bool) -> bool
+pub fn both(a: bool, b: bool) -> bool
     ensures { λ r. ⌜ r ≡ (a && b) ⌝ }
 {
     if a { b } else { false }
@@ -21,7 +21,7 @@ pub(crate) fn off_or_standby(display: bool, standby: bool) -> bool
 }
 
 // The counter's word, or 64, which no cell shows.
-pub(crate) fn counter_word(cell: Cell) -> u32
+pub fn counter_word(cell: Cell) -> u32
     ensures { λ r. ⌜ r ≡ counterWord cell ⌝ }
 {
     match cell {
@@ -57,7 +57,7 @@ pub(crate) fn mark(here: bool, cursor: bool, blink: bool, byte: u8) -> u8
 }
 
 // A byte as it shows: with the graphic over it, or nothing in the dark.
-pub(crate) fn lit(dark: bool, graphic: bool, dots: u8, byte: u8) -> u8
+pub fn lit(dark: bool, graphic: bool, dots: u8, byte: u8) -> u8
     ensures { λ r. ⌜ r ≡ (if dark then 0x00 else overlaid graphic dots byte) ⌝ }
 {
     if dark {

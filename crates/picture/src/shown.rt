@@ -8,7 +8,7 @@ ghost use Rattle.controller.specs.Glass.{shownRow, shownWord};
 ghost use Rattle.picture.specs.Picture.{wordContent};
 
 // Memory row s, at a row of the glass.
-pub(crate) fn shown_row(view: View, row: u32) -> u32
+pub fn shown_row(view: View, row: u32) -> u32
     requires { ⌜ row < 32 ⌝ }
     ensures within { λ r. ⌜ r < 64 ⌝ }
     ensures { λ r. ⌜ r ≡ shownRow view row ⌝ }
@@ -26,7 +26,7 @@ pub(crate) fn shown_word(view: View, row: u32, cell: u32) -> u32
     16 * (s / 16) + (cell + view.shift as u32) % 16
 }
 
-pub(crate) fn word_content(text: &[u8; 128], word: u32, length: usize) -> Content
+pub fn word_content(text: &[u8; 128], word: u32, length: usize) -> Content
     requires { ⌜ word < 64 ⌝ }
     ensures { λ r. ⌜ r ≡ wordContent length (now (text .entry)) word ⌝ }
 {

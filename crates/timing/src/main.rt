@@ -161,7 +161,7 @@ fn draws() -> u32 {
     let mut sum: u32 = 0;
     let mut i: u32 = 0;
     while i < TIMES {
-        let number = picture::draw::draw(
+        let number = drawing::draw(
             &text,
             &glyph,
             &graphic,
