@@ -1,4 +1,2 @@
-pub mod Laid
 pub mod Told
 pub mod DrawnFromBytes
-pub mod StatesAlike

@@ -10,7 +10,8 @@ use Rattle.picture.specs.Picture.{Seen}
 use Rattle.picture.specs.Refusals.{refusalOf}
 use Rattle.calls.specs.State.{State, freshState}
 use Rattle.playback.specs.Transcript.{Told, replayedSilently}
-use Rattle.boundary.specs.Report.{stateBytes, lastBytes, report, freshReplay}
+use Rattle.spelling.specs.Spelled.{stateBytes, lastBytes}
+use Rattle.boundary.specs.Report.{report, freshReplay}
 
 module _ (parallel : Bool) (e : Seen) (capture frame state₀ last₀ : List ℕ) (n : ℕ) (is : n ≡ refusalOf (length frame) (length (e .fonts .half)) (length (e .fonts .full))) where
   pub turned-away : n ≢ 0 → report n frame state₀ last₀ ≡ freshReplay parallel e capture frame state₀ last₀

@@ -1,29 +1,14 @@
 -- What `zifqarell_replay` leaves: a fresh panel replays a capture, and where that stopped is told in bytes.
-use Prim.Native.Nat.{ℕ, zero, suc, _/_, _%_}
+use Prim.Native.Nat.{ℕ}
 use mathlib.Core.Bool.{Bool}
-use mathlib.Core.List.{List, [], _∷_, _++_}
-use lib.ListN.{length}
+use mathlib.Core.List.{List}
 use lib.Dec.{eqb}
 use Rattle.base.specs.Choice.{if_then_else_}
 use Rattle.picture.specs.Picture.{Seen}
 use Rattle.picture.specs.Refusals.{lentRefusal}
-use Rattle.calls.specs.State.{State, freshState}
+use Rattle.calls.specs.State.{freshState}
 use Rattle.playback.specs.Transcript.{Told, replayedSilently}
-use Rattle.state_bytes.specs.Packed.{packed}
-use Rattle.state_bytes.specs.LinkPacked.{linkPacked}
-
--- a state as 2,337 bytes: text memory 128, glyph memory 128, graphic memory 2,048, the controls 23, the link 10
-unfoldable pub stateBytes : State → List ℕ
-stateBytes s = s .memories .text ++ (s .memories .glyph ++ (s .memories .graphic ++ (packed (s .control) ++ linkPacked (s .link))))
-
--- a number in so many bytes, low byte first
-abbrev pub lowFirst : ℕ → ℕ → List ℕ
-lowFirst zero number = []
-lowFirst (suc bytes) number = number % 256 ∷ lowFirst bytes (number / 256)
-
--- the place in eight bytes, the last accepted record's reply, and its count in two
-unfoldable pub lastBytes : ℕ → ℕ → ℕ → List ℕ
-lastBytes place reply count = lowFirst 8 place ++ (reply ∷ lowFirst 2 count)
+use Rattle.spelling.specs.Spelled.{stateBytes, lastBytes}
 
 -- the refusal number, the frame, the state and the last place as bytes
 pub record Report : Type 0 where

@@ -1,7 +1,5 @@
 // Functions for C or Rust to link: numbers and byte slices alone cross the border. A state crosses it as 2,337 bytes, and its controls
 // alone as 23 of them. Nothing is asked of a caller.
-mod spelling;
-
 use events::Made;
 use panel::Panel;
 use picture::refusals::refusal;

@@ -10,7 +10,7 @@ use Rattle.controller.specs.Memories.{memories}
 use Rattle.links.specs.declared.Link.{Link}
 use Rattle.calls.specs.State.{State, state, Valid}
 use Rattle.state_bytes.specs.Packed.{unpacked, packed}
-use Rattle.boundary.specs.Report.{stateBytes}
+use Rattle.spelling.specs.Spelled.{stateBytes}
 use Rattle.state_bytes.proofs.PackedUnpacked.{unpacked-packed}
 use Rattle.state_bytes.proofs.LinkRead.{FourBits, links-alike}
 

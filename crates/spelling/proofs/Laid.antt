@@ -9,7 +9,7 @@ use borrow.Rule.Slice.PartMut.{putMid}
 use Rattle.calls.specs.State.{State}
 use Rattle.state_bytes.specs.Packed.{packed}
 use Rattle.state_bytes.specs.LinkPacked.{linkPacked}
-use Rattle.boundary.specs.Report.{stateBytes}
+use Rattle.spelling.specs.Spelled.{stateBytes}
 
 -- a copy over as many bytes leaves none of them
 pub copied : (part out : List ℕ) → length part ≡ length out → take (length part) part ++ drop (length part) out ≡ part

@@ -2,9 +2,9 @@
 use borrow.Author.Needs.{needs}
 use mathlib.Core.Path.{_∙_}
 use Rattle.panel.specs.Handed.{stateOf}
-use Rattle.boundary.proofs.Laid.{state-laid}
-use Rattle.boundary.proofs.spelling.spell_state.Statement.{statement}
-use Rattle.boundary.proofs.spelling.spell_state.Tie as tie
+use Rattle.spelling.proofs.Laid.{state-laid}
+use Rattle.spelling.proofs.spell_state.Statement.{statement}
+use Rattle.spelling.proofs.spell_state.Tie as tie
 
 pub spell-state-spec : {M : Type 1} → statement M
 spell-state-spec =

@@ -1,9 +1,9 @@
 -- By computation.
 use borrow.Author.Needs.{needs}
 use mathlib.Core.Path.{refl}
-use Rattle.boundary.specs.Report.{lastBytes}
-use Rattle.boundary.proofs.spelling.last_bytes.Statement.{statement}
-use Rattle.boundary.proofs.spelling.last_bytes.Tie as tie
+use Rattle.spelling.specs.Spelled.{lastBytes}
+use Rattle.spelling.proofs.last_bytes.Statement.{statement}
+use Rattle.spelling.proofs.last_bytes.Tie as tie
 
 pub last-bytes-spec : {M : Type 1} → statement M
 unfolding lastBytes

@@ -1,11 +1,11 @@
-// Where a replay stopped, spelled into arrays that the caller lends.
+// A state, and where a replay stopped, spelled into bytes for other languages.
 use panel::Panel;
 use state_bytes::pack;
 use state_bytes::pack_link;
 ghost use mathlib.Core.Path.{_≡_};
 ghost use lib.ListN.{length};
 ghost use Rattle.panel.specs.Handed.{stateOf};
-ghost use Rattle.boundary.specs.Report.{stateBytes, lastBytes};
+ghost use Rattle.spelling.specs.Spelled.{stateBytes, lastBytes};
 
 // Bytes put over as many others.
 fn put(part: &[u8], out: &mut [u8])
@@ -16,7 +16,7 @@ fn put(part: &[u8], out: &mut [u8])
 }
 
 // The whole state, part by part.
-pub(crate) fn spell_state(panel: Panel, out: &mut [u8])
+pub fn spell_state(panel: Panel, out: &mut [u8])
     requires { ⌜ length (now out) ≡ 2337 ⌝ }
     ensures { λ _. ⌜ now (out .exit) ≡ stateBytes (stateOf panel) ⌝ }
 {
@@ -30,7 +30,7 @@ pub(crate) fn spell_state(panel: Panel, out: &mut [u8])
 }
 
 // The place where the replay stopped, and what the last accepted record answered.
-pub(crate) fn last_bytes(place: usize, reply: u8, count: usize) -> [u8; 11]
+pub fn last_bytes(place: usize, reply: u8, count: usize) -> [u8; 11]
     ensures { λ r. ⌜ r ≡ lastBytes place reply count ⌝ }
 {
     let second = place / 256;

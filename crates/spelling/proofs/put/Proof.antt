@@ -1,9 +1,9 @@
 -- The copy leaves nothing else, since both are of one length.
 use borrow.Author.Needs.{needs}
 use mathlib.Core.Path.{_∙_}
-use Rattle.boundary.proofs.Laid.{copied}
-use Rattle.boundary.proofs.spelling.put.Statement.{statement}
-use Rattle.boundary.proofs.spelling.put.Tie as tie
+use Rattle.spelling.proofs.Laid.{copied}
+use Rattle.spelling.proofs.put.Statement.{statement}
+use Rattle.spelling.proofs.put.Tie as tie
 
 pub put-spec : {M : Type 1} → statement M
 put-spec =
