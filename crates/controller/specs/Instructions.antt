@@ -19,29 +19,33 @@ use Rattle.controller.specs.declared.Entry.{Entry}
 use Rattle.controller.specs.declared.Shown.{Shown}
 use Rattle.controller.specs.declared.Function.{Function}
 use Rattle.controller.specs.declared.View.{View}
+use Rattle.controller.specs.declared.Time.{Time}
 use Rattle.controller.specs.declared.Control.{Control}
 
 -- the controls with one part put in
 abbrev pub withPlace : Place → Control → Control
-withPlace p c = record { place = p; entry = c .entry; shown = c .shown; function = c .function; sr = c .sr; view = c .view; standby = c .standby }
+withPlace p c = record { place = p; entry = c .entry; shown = c .shown; function = c .function; sr = c .sr; view = c .view; standby = c .standby; time = c .time }
 
 abbrev pub withEntry : Entry → Control → Control
-withEntry e c = record { place = c .place; entry = e; shown = c .shown; function = c .function; sr = c .sr; view = c .view; standby = c .standby }
+withEntry e c = record { place = c .place; entry = e; shown = c .shown; function = c .function; sr = c .sr; view = c .view; standby = c .standby; time = c .time }
 
 abbrev pub withShown : Shown → Control → Control
-withShown s c = record { place = c .place; entry = c .entry; shown = s; function = c .function; sr = c .sr; view = c .view; standby = c .standby }
+withShown s c = record { place = c .place; entry = c .entry; shown = s; function = c .function; sr = c .sr; view = c .view; standby = c .standby; time = c .time }
 
 abbrev pub withFunction : Function → Control → Control
-withFunction f c = record { place = c .place; entry = c .entry; shown = c .shown; function = f; sr = c .sr; view = c .view; standby = c .standby }
+withFunction f c = record { place = c .place; entry = c .entry; shown = c .shown; function = f; sr = c .sr; view = c .view; standby = c .standby; time = c .time }
 
 abbrev pub withSr : Bool → Control → Control
-withSr sr c = record { place = c .place; entry = c .entry; shown = c .shown; function = c .function; sr = sr; view = c .view; standby = c .standby }
+withSr sr c = record { place = c .place; entry = c .entry; shown = c .shown; function = c .function; sr = sr; view = c .view; standby = c .standby; time = c .time }
 
 abbrev pub withView : View → Control → Control
-withView v c = record { place = c .place; entry = c .entry; shown = c .shown; function = c .function; sr = c .sr; view = v; standby = c .standby }
+withView v c = record { place = c .place; entry = c .entry; shown = c .shown; function = c .function; sr = c .sr; view = v; standby = c .standby; time = c .time }
 
 abbrev pub withStandby : Bool → Control → Control
-withStandby s c = record { place = c .place; entry = c .entry; shown = c .shown; function = c .function; sr = c .sr; view = c .view; standby = s }
+withStandby s c = record { place = c .place; entry = c .entry; shown = c .shown; function = c .function; sr = c .sr; view = c .view; standby = s; time = c .time }
+
+abbrev pub withTime : Time → Control → Control
+withTime t c = record { place = c .place; entry = c .entry; shown = c .shown; function = c .function; sr = c .sr; view = c .view; standby = c .standby; time = t }
 
 -- an address set, clear, home or a cursor move: the high half next, and a dummy read due
 abbrev pub pointed : Target → ℕ → ℕ → Place

@@ -1,9 +1,10 @@
 -- Document 01, "Memories and flags": everything but the memories and the link. What it is when fresh, and the ranges it keeps to.
-use Prim.Native.Nat.{ℕ, _<_}
+use Prim.Native.Nat.{ℕ, _<_, _≤_}
 use Prim.{Unit}
-use mathlib.Core.Bool.{true, false}
+use mathlib.Core.Bool.{Bool, true, false}
 use mathlib.Core.Path.{_≡_}
 use lib.ListN.{length, replicate}
+use Rattle.base.specs.Choice.{if_then_else_}
 use Rattle.events.specs.declared.Made.{Made}
 use Rattle.events.specs.declared.Pin.{Pin}
 use Rattle.table.specs.declared.Target.{Target}
@@ -23,7 +24,7 @@ freshPlace = record { target = Text; counter = 0; row = 0; low = false; dummy = 
 abbrev pub freshView : View
 freshView = record { scroll = 0; shift = 0; reversed = replicate 4 false }
 
--- I/D 1, S 0; display, cursor, blink, RE, SR, G 0; DL 1; no standby
+-- I/D 1, S 0; display, cursor, blink, RE, SR, G 0; DL 1; no standby; not busy, with or without time as it is made
 unfoldable pub freshControl : Made → Control
 freshControl made =
     record {
@@ -34,11 +35,12 @@ freshControl made =
       sr = false;
       view = freshView;
       standby = false;
+      time = record { timed = made .time; left = 0 };
     }
 
 -- reset takes the interface pin: what the state keeps, and the pin, are what the next state is made with
 abbrev pub remade : Control → Pin → Made
-remade c pin = record { parallel = pin .parallel }
+remade c pin = record { parallel = pin .parallel; time = c .time .timed }
 
 -- the counter has 6 bits for text and glyph memory, 4 for graphic memory
 abbrev pub limit : Target → ℕ
@@ -50,6 +52,10 @@ abbrev pub RowInRange : Waiting → Type 0
 RowInRange Nothing = Unit {0}
 RowInRange (Row y) = y < 64
 
+-- the most microseconds that are left: those of a clear, or none where there is no time
+abbrev pub longest : Bool → ℕ
+longest timed = if timed then 1600 else 0
+
 -- the controls lie within these ranges
 pub record InRange (c : Control) : Type 0 where
   pub counter : c .place .counter < limit (c .place .target)
@@ -58,6 +64,7 @@ pub record InRange (c : Control) : Type 0 where
   pub scroll : c .view .scroll < 64
   pub shift : c .view .shift < 16
   pub lines : length (c .view .reversed) ≡ 4
+  pub left : c .time .left ≤ longest (c .time .timed)
 
 -- a state that may be handed to a call: its controls lie within their ranges, and its memories have their sizes
 pub record AllInRange (m : Memories) (c : Control) : Type 0 where

@@ -4,6 +4,7 @@ use crate::Entry;
 use crate::Function;
 use crate::Place;
 use crate::Shown;
+use crate::Time;
 use crate::View;
 use crate::Waiting;
 use events::Made;
@@ -14,7 +15,7 @@ use table::Target;
 ghost use mathlib.Core.Path.{_≡_};
 ghost use Prim.Native.Nat.{_<_};
 ghost use Rattle.controller.specs.State.{InRange, freshControl, remade};
-ghost use Rattle.controller.specs.Instructions.{withPlace, withEntry, withShown, withFunction, withSr, withView, withStandby, pointed, withWaiting, begun, graphicAddressed, stepped, displayMoved, home, setFunction, reverseToggled, scrolled, obeyed, modes};
+ghost use Rattle.controller.specs.Instructions.{withPlace, withEntry, withShown, withFunction, withSr, withView, withStandby, withTime, pointed, withWaiting, begun, graphicAddressed, stepped, displayMoved, home, setFunction, reverseToggled, scrolled, obeyed, modes};
 
 // The counter one to the right or to the left, modulo 64.
 pub(crate) fn stepped(right: bool, counter: u8) -> u8
@@ -126,7 +127,7 @@ impl Function {
 }
 
 impl Control {
-    // The controls of a panel that has just been made. So far nothing that it is made with shows in them.
+    // The controls of a panel that has just been made.
     pub fn fresh(made: Made) -> Control
         ensures { λ r. ⌜ r ≡ freshControl made ⌝ }
     {
@@ -157,6 +158,10 @@ impl Control {
                 reversed: [false; 4],
             },
             standby: false,
+            time: Time {
+                timed: made.time,
+                left: 0,
+            },
         }
     }
 
@@ -166,6 +171,7 @@ impl Control {
     {
         Made {
             parallel: pin.parallel,
+            time: self.time.timed,
         }
     }
 
@@ -235,6 +241,14 @@ impl Control {
     {
         let mut next = self;
         next.standby = standby;
+        next
+    }
+
+    pub fn with_time(self, time: Time) -> Control
+        ensures { λ r. ⌜ r ≡ withTime time self ⌝ }
+    {
+        let mut next = self;
+        next.time = time;
         next
     }
 

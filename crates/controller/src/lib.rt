@@ -52,6 +52,12 @@ pub struct View {
     pub reversed: [bool; 4],
 }
 
+// Whether the panel has time, and for how many microseconds it is busy yet.
+pub struct Time {
+    pub timed: bool,
+    pub left: u16,
+}
+
 pub struct Control {
     pub place: Place,
     pub entry: Entry,
@@ -60,6 +66,7 @@ pub struct Control {
     pub sr: bool,
     pub view: View,
     pub standby: bool,
+    pub time: Time,
 }
 
 // What a text word shows of glyph memory: an image, or none.

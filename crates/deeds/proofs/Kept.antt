@@ -1,9 +1,10 @@
 -- Fresh is valid, and every transfer keeps the ranges and the memories' sizes: place and view are looked at apart.
-use Prim.Native.Nat.{ℕ, _<_}
-use mathlib.Core.Bool.{Bool, true, false, not}
+use Prim.Native.Nat.{ℕ, _<_, _≤_}
+use mathlib.Core.Bool.{Bool, true, false, not, _&&_}
 use mathlib.Core.Path.{_≡_, refl, sym, subst}
 use mathlib.Core.List.{List}
 use native.Mathlib.Omega.{arith}
+use lib.Dec.{ltb}
 use lib.ListN.{length, length-set, replicate}
 use Rattle.base.specs.Choice.{if_then_else_}
 use Rattle.base.proofs.Choice.{either}
@@ -25,13 +26,15 @@ use Rattle.controller.specs.declared.Waiting.{Waiting}
 use Rattle.controller.specs.declared.Waiting.the-variants as waiting
 use Rattle.controller.specs.declared.Place.{Place}
 use Rattle.controller.specs.declared.View.{View}
+use Rattle.controller.specs.declared.Time.{Time}
 use Rattle.controller.specs.declared.Control.{Control}
 use Rattle.deeds.specs.declared.Done.{Done}
 use Rattle.controller.specs.Memories.{Memories, memories, freshMemories}
-use Rattle.controller.specs.State.{freshControl, remade, limit, RowInRange, InRange, AllInRange}
-use Rattle.controller.specs.Instructions.{withPlace, withView, withWaiting, pointed, begun, home, stepped, displayMoved, graphicAddressed, reverseToggled, scrolled, obeyed, cleared, modes}
+use Rattle.controller.specs.State.{freshControl, remade, limit, RowInRange, longest, InRange, AllInRange}
+use Rattle.controller.specs.Instructions.{withPlace, withView, withTime, withWaiting, pointed, begun, home, stepped, displayMoved, graphicAddressed, reverseToggled, scrolled, obeyed, cleared, modes}
 use Rattle.controller.specs.Data.{stored, nextCounter, moved, shifts, movedOn, dummyRead}
-use Rattle.deeds.specs.Transfers.{Acted, executed, written, readOut, statusRead, carriedOut, performed}
+use Rattle.deeds.specs.Time.{lost, instructionCost, cost, charged, elapsed}
+use Rattle.deeds.specs.Transfers.{Acted, executed, written, readOut, statusRead, carriedOut, atCost, onTime, performed}
 
 record PlaceIn (p : Place) : Type 0 where
   counter : p .counter < limit (p .target)
@@ -43,14 +46,18 @@ record ViewIn (v : View) : Type 0 where
   shift : v .shift < 16
   lines : length (v .reversed) ≡ 4
 
+-- what is left is at most what a clear costs, and nothing without time
+abbrev LeftIn : Time → Type 0
+LeftIn t = t .left ≤ longest (t .timed)
+
 place-in : (c : Control) → InRange c → PlaceIn (c .place)
 place-in c r = record { counter = r .counter; row = r .row; waiting = r .waiting }
 
 view-in : (c : Control) → InRange c → ViewIn (c .view)
 view-in c r = record { scroll = r .scroll; shift = r .shift; lines = r .lines }
 
-in-range : (c : Control) → PlaceIn (c .place) → ViewIn (c .view) → InRange c
-in-range c p v =
+in-range : (c : Control) → PlaceIn (c .place) → ViewIn (c .view) → LeftIn (c .time) → InRange c
+in-range c p v t =
     record {
       counter = p .counter;
       row = p .row;
@@ -58,6 +65,7 @@ in-range c p v =
       scroll = v .scroll;
       shift = v .shift;
       lines = v .lines;
+      left = t;
     }
 
 pub fresh-in-range : (made : Made) → InRange (freshControl made)
@@ -70,6 +78,7 @@ fresh-in-range made =
       scroll = omega arith;
       shift = omega arith;
       lines = refl;
+      left = either (λ (n : ℕ). 0 ≤ n) (made .time) (omega arith) (omega arith);
     }
 
 pub fresh-valid : (made : Made) → AllInRange freshMemories (freshControl made)
@@ -114,17 +123,18 @@ module _ (c : Control) (r : InRange c) where
   Keeps i = InRange (obeyed c i)
 
   -- an entry that leaves place and view, but for a waiting row
-  drops : {d : Control} → d .place ≡ withWaiting waiting.Nothing (c .place) → d .view ≡ c .view → InRange d
-  drops {d} p v = in-range d (subst PlaceIn (sym p) (dropped-in _ (place-in c r))) (subst ViewIn (sym v) (view-in c r))
+  drops : {d : Control} → d .place ≡ withWaiting waiting.Nothing (c .place) → d .view ≡ c .view → d .time ≡ c .time → InRange d
+  drops {d} p v t =
+      in-range d (subst PlaceIn (sym p) (dropped-in _ (place-in c r))) (subst ViewIn (sym v) (view-in c r)) (subst LeftIn (sym t) (r .left))
 
   points : (t : Target) (k : ℕ) → k < limit t → InRange (withPlace (pointed t k (c .place .row)) (begun c))
-  points t k h = in-range _ (pointed-in t k _ h (r .row)) (view-in c r)
+  points t k h = in-range _ (pointed-in t k _ h (r .row)) (view-in c r) (r .left)
 
   looks : (v : View) → ViewIn v → InRange (withView v (begun c))
-  looks v h = in-range _ (dropped-in _ (place-in c r)) h
+  looks v h = in-range _ (dropped-in _ (place-in c r)) h (r .left)
 
   homes : InRange (home (begun c))
-  homes = in-range _ (pointed-in Text 0 _ (omega arith) (r .row)) (home-in _ (view-in c r))
+  homes = in-range _ (pointed-in Text 0 _ (omega arith) (r .row)) (home-in _ (view-in c r)) (r .left)
 
   moves : (t : Target) (right : Bool) → Keeps (ifText t (MoveCursor right))
   unfolding Keeps obeyed
@@ -137,25 +147,25 @@ module _ (c : Control) (r : InRange c) where
   basic-kept 00h b = r
   basic-kept 01h b = homes
   basic-kept 02h-03h b = homes
-  basic-kept 04h-07h b = drops refl refl
-  basic-kept 08h-0Fh b = drops refl refl
+  basic-kept 04h-07h b = drops refl refl refl
+  basic-kept 08h-0Fh b = drops refl refl refl
   basic-kept 10h-1Fh b =
       either Keeps (bit 3 b) (looks _ (shifted-in (bit 2 b) (c .view) (view-in c r))) (moves (c .place .target) (bit 2 b))
-  basic-kept 20h-3Fh b = drops refl refl
+  basic-kept 20h-3Fh b = drops refl refl refl
   basic-kept 40h-7Fh b = either Keeps (c .sr) r (points Glyph _ (omega arith))
   basic-kept 80h-FFh b = points Text _ (omega arith)
 
   extended-kept : (row : Row) (b : ℕ) → Keeps (table (modes c) row b .extended)
   unfolding Keeps obeyed
   extended-kept 00h b = r
-  extended-kept 01h b = drops refl refl
-  extended-kept 02h-03h b = drops refl refl
+  extended-kept 01h b = drops refl refl refl
+  extended-kept 02h-03h b = drops refl refl refl
   extended-kept 04h-07h b = looks _ (toggled-in b (c .view) (view-in c r))
   extended-kept 08h-0Fh b = r
   extended-kept 10h-1Fh b = r
-  extended-kept 20h-3Fh b = drops refl refl
+  extended-kept 20h-3Fh b = drops refl refl refl
   extended-kept 40h-7Fh b = either Keeps (c .sr) (looks _ (scrolled-in _ (c .view) (omega arith) (view-in c r))) r
-  extended-kept 80h-FFh b = in-range _ (addressed-in (c .place .waiting) (c .place) _ (r .waiting) (place-in c r)) (view-in c r)
+  extended-kept 80h-FFh b = in-range _ (addressed-in (c .place .waiting) (c .place) _ (r .waiting) (place-in c r)) (view-in c r) (r .left)
 
   pub obeyed-in-range : (b : ℕ) → InRange (obeyed c (said (modes c) b))
   unfolding said Keeps
@@ -202,10 +212,11 @@ unfolding movedOn
 movedOn-in-range c r =
     in-range _ (moved-in (c .entry .id) (c .place) (place-in c r))
     (either ViewIn (shifts c) (shifted-in (not (c .entry .id)) (c .view) (view-in c r)) (view-in c r))
+    (r .left)
 
 pub dummyRead-in-range : (c : Control) → InRange c → InRange (dummyRead c)
 dummyRead-in-range c r =
-    in-range (dummyRead c) (record { counter = r .counter; row = r .row; waiting = tt }) (view-in c r)
+    in-range (dummyRead c) (record { counter = r .counter; row = r .row; waiting = tt }) (view-in c r) (r .left)
 
 -- storing a byte keeps the sizes of the memories
 stored-sizes :
@@ -237,6 +248,42 @@ pub statusRead-valid : (m : Memories) (c : Control) → AllInRange m c → AllIn
 unfolding statusRead
 statusRead-valid m c v = v
 
+-- time
+
+timed-in-range : (t : Time) (c : Control) → LeftIn t → InRange c → InRange (withTime t c)
+timed-in-range t c h r = in-range (withTime t c) (place-in c r) (view-in c r) h
+
+timed-valid : (t : Time) (m : Memories) (c : Control) → LeftIn t → AllInRange m c → AllInRange m (withTime t c)
+timed-valid t m c h v = record { control = timed-in-range t c h (v .control); text = v .text; glyph = v .glyph; graphic = v .graphic }
+
+instruction-most : (t : Touch) → instructionCost t ≤ 1600
+instruction-most touch.Nothing = omega arith
+instruction-most touch.Counter = omega arith
+instruction-most touch.All = omega arith
+instruction-most touch.AllAndText = omega arith
+
+cost-most : (c : Control) (t : Transfer) → cost c t ≤ 1600
+cost-most c (Instruct byte) = instruction-most (touches (said (modes c) byte))
+cost-most c (Write byte) = omega arith
+cost-most c Status = omega arith
+cost-most c Read = omega arith
+
+charged-left : (n : ℕ) (t : Time) → n ≤ 1600 → LeftIn t → LeftIn (charged n t)
+charged-left n t most h = by (t .timed) (ltb 0 n) h
+  where
+    by : (timed costs : Bool) → t .left ≤ longest timed → (if timed && costs then n else t .left) ≤ longest timed
+    by true true h = most
+    by true false h = h
+    by false costs h = h
+
+elapsed-left : (eights : ℕ) (t : Time) → LeftIn t → LeftIn (elapsed eights t)
+elapsed-left eights t h = omega (arith, h)
+
+atCost-valid : (n : ℕ) (a : Acted) → n ≤ 1600 → ActedValid a → AllInRange (a .memories) (atCost n (a .done) .control)
+atCost-valid n a most v =
+    timed-valid (charged n (a .done .control .time)) (a .memories) (a .done .control)
+    (charged-left n (a .done .control .time) most (v .control .left)) v
+
 module _ (m : Memories) (c : Control) (v : AllInRange m c) where
   carriedOut-valid : (t : Transfer) → ActedValid (carriedOut m c t)
   unfolding carriedOut
@@ -245,8 +292,13 @@ module _ (m : Memories) (c : Control) (v : AllInRange m c) where
   carriedOut-valid Status = statusRead-valid m c v
   carriedOut-valid Read = readOut-valid m c v
 
+  onTime-valid : (t : Transfer) → ActedValid (onTime m c t)
+  unfolding onTime
+  onTime-valid t = either ActedValid (lost c t) v (atCost-valid (cost c t) (carriedOut m c t) (cost-most c t) (carriedOut-valid t))
+
   pub performed-valid : (d : Deed) → ActedValid (performed m c d)
   unfolding performed
   performed-valid deed.Nothing = v
-  performed-valid (deed.Whole t) = carriedOut-valid t
+  performed-valid (deed.Whole t) = onTime-valid t
   performed-valid (deed.Fresh pin) = fresh-valid (remade c pin)
+  performed-valid (deed.Pass eights) = timed-valid (elapsed eights (c .time)) m c (elapsed-left eights (c .time) (v .control .left)) v

@@ -1,2 +1,3 @@
 pub mod Kept
 pub mod Leaves
+pub mod Untimed

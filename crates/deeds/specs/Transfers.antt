@@ -1,5 +1,5 @@
 -- Document 01, "Instructions": each transfer whole, with what it leaves in the memories and the controls, its reply, and what it names.
-use Prim.Native.Nat.{ℕ}
+use Prim.Native.Nat.{ℕ, _+_}
 use Rattle.base.specs.Choice.{if_then_else_}
 use Rattle.table.specs.Table.{said}
 use Rattle.table.specs.Touches.{touches}
@@ -14,9 +14,10 @@ use Rattle.controller.specs.declared.Region.the-variants.{Nothing, Whole}
 use Rattle.deeds.specs.declared.Done.{Done}
 use Rattle.controller.specs.Memories.{Memories, memories, freshMemories}
 use Rattle.controller.specs.State.{freshControl, remade}
-use Rattle.controller.specs.Instructions.{obeyed, cleared, modes}
+use Rattle.controller.specs.Instructions.{withTime, obeyed, cleared, modes}
 use Rattle.controller.specs.Data.{stored, found, movedOn, dummyRead}
 use Rattle.controller.specs.Named.{instructionNames, writeNames, readNames}
+use Rattle.deeds.specs.Time.{busyBit, lost, cost, charged, elapsed}
 
 -- what a transfer leaves: the memories, and the rest
 pub record Acted : Type 0 where
@@ -48,9 +49,9 @@ readOut m c =
     if c .place .dummy then record { control = dummyRead c; reply = 0; region = Nothing }
     else record { control = movedOn c; reply = found (c .place .target) (c .place) m; region = readNames c (movedOn c) }
 
--- a status read: busy bit 0, bit 6 zero, the counter; it changes nothing and names none
+-- a status read: the busy bit, bit 6 zero, the counter; it changes nothing and names none
 unfoldable pub statusRead : Control → Done
-statusRead c = record { control = c; reply = c .place .counter; region = Nothing }
+statusRead c = record { control = c; reply = busyBit c + c .place .counter; region = Nothing }
 
 -- a whole transfer
 unfoldable pub carriedOut : Memories → Control → Transfer → Acted
@@ -59,12 +60,27 @@ carriedOut m c (Write byte) = written m c byte
 carriedOut m c Status = acted m (statusRead c)
 carriedOut m c Read = acted m (readOut m c)
 
+-- nothing is done: the answer is 0, and no byte is named
+abbrev pub nothingDone : Control → Done
+nothingDone c = record { control = c; reply = 0; region = Nothing }
+
+-- what was done, with what it costs left
+abbrev pub atCost : ℕ → Done → Done
+atCost n d = record { control = withTime (charged n (d .control .time)) (d .control); reply = d .reply; region = d .region }
+
+-- a transfer that would act: lost while busy, and that does not restart the time; else carried out, at its cost
+unfoldable pub onTime : Memories → Control → Transfer → Acted
+onTime m c t =
+    if lost c t then acted m (nothingDone c)
+    else acted (carriedOut m c t .memories) (atCost (cost c t) (carriedOut m c t .done))
+
 -- everything as fresh, and every byte is named
 abbrev pub restarted : Made → Acted
 restarted made = acted freshMemories (record { control = freshControl made; reply = 0; region = Whole })
 
--- what of an event reaches the controller: nothing, and the state stays; a whole transfer; or reset
+-- what of an event reaches the controller: nothing, and the state stays; a whole transfer; reset; or that time passed
 unfoldable pub performed : Memories → Control → Deed → Acted
-performed m c deed.Nothing = acted m (record { control = c; reply = 0; region = Nothing })
-performed m c (deed.Whole t) = carriedOut m c t
+performed m c deed.Nothing = acted m (nothingDone c)
+performed m c (deed.Whole t) = onTime m c t
 performed m c (deed.Fresh pin) = restarted (remade c pin)
+performed m c (deed.Pass eights) = acted m (nothingDone (withTime (elapsed eights (c .time)) c))

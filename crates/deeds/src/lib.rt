@@ -1,4 +1,11 @@
-// What reaches the controller is done here, and nowhere else: each transfer whole, and reset, on lent memories.
+// What reaches the controller is done here, and nowhere else: each transfer whole, reset, and time that passes, on lent memories.
+mod time;
+
+use crate::time::busy_bit;
+use crate::time::charged;
+use crate::time::cost;
+use crate::time::elapsed;
+use crate::time::is_lost;
 use controller::Control;
 use controller::Region;
 use controller::data::find;
@@ -16,7 +23,7 @@ ghost use Prim.Native.Nat.{ℕ};
 ghost use Rattle.controller.specs.Memories.{memories, before, after};
 ghost use Rattle.controller.specs.State.{InRange};
 ghost use Rattle.controller.specs.Instructions.{cleared};
-ghost use Rattle.deeds.specs.Transfers.{acted, executed, written, readOut, statusRead, carriedOut, restarted, performed};
+ghost use Rattle.deeds.specs.Transfers.{acted, executed, written, readOut, statusRead, carriedOut, nothingDone, atCost, onTime, restarted, performed};
 
 // What a transfer leaves beside the memories: the next controls, the reply, and what it names.
 pub struct Done {
@@ -104,13 +111,14 @@ fn read(text: &[u8; 128], glyph: &[u8; 128], graphic: &[u8; 2048], control: Cont
     }
 }
 
-// A status read: the counter, and nothing changes.
+// A status read: the busy bit and the counter, and nothing changes.
 fn status(control: Control) -> Done
+    requires { ⌜ InRange control ⌝ }
     ensures { λ r. ⌜ r ≡ statusRead control ⌝ }
 {
     Done {
         control,
-        reply: control.place.counter,
+        reply: busy_bit(control) + control.place.counter,
         region: Region::Nothing,
     }
 }
@@ -132,6 +140,50 @@ fn carry_out(
         Transfer::Status => status(control),
         Transfer::Read => read(text, glyph, graphic, control),
     }
+}
+
+// Nothing is done.
+fn nothing_done(control: Control) -> Done
+    ensures { λ r. ⌜ r ≡ nothingDone control ⌝ }
+{
+    Done {
+        control,
+        reply: 0,
+        region: Region::Nothing,
+    }
+}
+
+// What was done, with what it costs left.
+fn at_cost(done: Done, cost: u16) -> Done
+    ensures { λ r. ⌜ r ≡ atCost cost done ⌝ }
+{
+    let control = done.control;
+    let time = charged(control.time, cost);
+    let mut next = done;
+    next.control = control.with_time(time);
+    next
+}
+
+// A transfer that would act: lost while busy, else carried out at its cost. A panel without time is spared both questions.
+fn on_time(
+    text: &mut [u8; 128],
+    glyph: &mut [u8; 128],
+    graphic: &mut [u8; 2048],
+    control: Control,
+    transfer: Transfer,
+) -> Done
+    requires { ⌜ InRange control ⌝ }
+    ensures { λ r. ⌜ acted (after text glyph graphic) r ≡ onTime (before text glyph graphic) control transfer ⌝ }
+{
+    if !control.time.timed {
+        return carry_out(text, glyph, graphic, control, transfer);
+    }
+    if is_lost(control, transfer) {
+        return nothing_done(control);
+    }
+    let cost = cost(control, transfer);
+    let done = carry_out(text, glyph, graphic, control, transfer);
+    at_cost(done, cost)
 }
 
 // Everything as fresh.
@@ -165,12 +217,12 @@ pub fn perform(
     ensures { λ r. ⌜ acted (after text glyph graphic) r ≡ performed (before text glyph graphic) control deed ⌝ }
 {
     match deed {
-        Deed::Nothing => Done {
-            control,
-            reply: 0,
-            region: Region::Nothing,
-        },
-        Deed::Whole(transfer) => carry_out(text, glyph, graphic, control, transfer),
+        Deed::Nothing => nothing_done(control),
+        Deed::Whole(transfer) => on_time(text, glyph, graphic, control, transfer),
         Deed::Fresh(pin) => restart(text, glyph, graphic, control.remade(pin)),
+        Deed::Pass(eights) => {
+            let time = elapsed(control.time, eights);
+            nothing_done(control.with_time(time))
+        }
     }
 }

@@ -9,9 +9,10 @@ pub enum Transfer {
     Read,
 }
 
-// What a panel is made with.
+// What a panel is made with: its link, and whether it has time.
 pub struct Made {
     pub parallel: bool,
+    pub time: bool,
 }
 
 // The interface pin, which reset takes.
@@ -19,12 +20,14 @@ pub struct Pin {
     pub parallel: bool,
 }
 
-// What comes to the panel: a transfer of the parallel link, a bit of the serial one with chip select high, chip select low, or reset.
+// What comes to the panel: a transfer of the parallel link, a bit of the serial one with chip select high, chip select low, reset, or
+// that so many times 8 microseconds passed.
 pub enum Event {
     Transfer(Transfer),
     Bit(bool),
     SelectLow,
     Reset(Pin),
+    Pass(u8),
 }
 
 // What of an event reaches the controller.
@@ -32,4 +35,5 @@ pub enum Deed {
     Nothing,
     Whole(Transfer),
     Fresh(Pin),
+    Pass(u8),
 }

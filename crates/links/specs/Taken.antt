@@ -13,7 +13,7 @@ use Rattle.serial.specs.declared.Received.{Received}
 use Rattle.serial.specs.declared.Received.the-variants as received
 use Rattle.serial.specs.declared.Heard.{Heard}
 use Rattle.events.specs.declared.Deed.{Deed}
-use Rattle.events.specs.declared.Deed.the-variants.{Nothing, Whole, Fresh}
+use Rattle.events.specs.declared.Deed.the-variants.{Nothing, Whole, Fresh, Pass}
 use Rattle.links.specs.declared.Rest.{Rest}
 use Rattle.links.specs.declared.Rest.the-variants.{Stays, Halved, Handed}
 use Rattle.links.specs.declared.Carried.{Carried}
@@ -54,12 +54,13 @@ abbrev pub selectTaken : Link → Taken
 selectTaken (Parallel pairing) = OtherLink
 selectTaken (Serial receiver) = Carries (stays Nothing (Serial (afterSelectLow receiver)))
 
--- an event on a link, by DL; reset is of both links, takes the interface pin, and leaves the link idle
+-- an event on a link, by DL; reset is of both links, takes the interface pin, and leaves the link idle; time passes beside both
 unfoldable pub takenBy : Bool → Link → Event → Taken
 takenBy dl link (event.Transfer t) = transferTaken dl link t
 takenBy dl link (event.Bit bit) = bitTaken link bit
 takenBy dl link event.SelectLow = selectTaken link
 takenBy dl link (event.Reset pin) = Carries (stays (Fresh pin) (idle (pin .parallel)))
+takenBy dl link (event.Pass eights) = Carries (stays (Pass eights) link)
 
 -- how the answer goes back: whole; of a half byte that acted the upper four bits, with the low four of a read's kept; or as it was kept
 abbrev pub replied : Rest → ℕ → Replied

@@ -28,6 +28,7 @@ pub fn take(dl: bool, link: Link, event: Event) -> Taken
         Event::Bit(bit) => bit_taken(link, bit),
         Event::SelectLow => select_taken(link),
         Event::Reset(pin) => Taken::Carries(stays(Deed::Fresh(pin), idle(pin.parallel))),
+        Event::Pass(eights) => Taken::Carries(stays(Deed::Pass(eights), link)),
     }
 }
 

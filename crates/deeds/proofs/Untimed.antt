@@ -1,0 +1,80 @@
+-- A transfer leaves the time alone but for its cost; and without time nothing is lost and nothing costs: every transfer is carried out as
+-- it was before there was time.
+use Prim.Native.Nat.{ℕ, _≤_}
+use mathlib.Core.Bool.{Bool, true, false, _&&_}
+use mathlib.Core.Path.{_≡_, refl, ap, subst, _∙_}
+use native.Mathlib.Omega.{arith}
+use lib.Dec.{ltb}
+use Rattle.base.specs.Choice.{if_then_else_}
+use Rattle.base.proofs.Choice.{either}
+use Rattle.table.specs.Table.{said}
+use Rattle.table.specs.declared.Instruction.{Instruction}
+use Rattle.table.specs.declared.Instruction.the-variants.{Ignored, Clear, Home, EntryMode, Display, MoveCursor, MoveDisplay, FunctionSet, GlyphAddress, TextAddress, Standby, SetSr, ToggleReverse, Scroll, GraphicAddress}
+use Rattle.events.specs.declared.Transfer.{Transfer}
+use Rattle.events.specs.declared.Transfer.the-variants.{Instruct, Write, Status, Read}
+use Rattle.controller.specs.declared.Time.{Time}
+use Rattle.controller.specs.declared.Control.{Control}
+use Rattle.controller.specs.Memories.{Memories}
+use Rattle.controller.specs.State.{longest, InRange}
+use Rattle.controller.specs.Instructions.{withTime, obeyed, modes}
+use Rattle.controller.specs.Data.{movedOn}
+use Rattle.deeds.specs.declared.Done.{Done}
+use Rattle.deeds.specs.Time.{busy, lost, cost, charged}
+use Rattle.deeds.specs.Transfers.{Acted, acted, executed, written, readOut, statusRead, carriedOut, nothingDone, atCost, onTime}
+
+-- what is carried out leaves the time
+
+obeyed-time : (c : Control) (i : Instruction) → obeyed c i .time ≡ c .time
+unfolding obeyed
+obeyed-time c Ignored = refl
+obeyed-time c Clear = refl
+obeyed-time c Home = refl
+obeyed-time c (EntryMode id s) = refl
+obeyed-time c (Display display cursor blink) = refl
+obeyed-time c (MoveCursor right) = refl
+obeyed-time c (MoveDisplay right) = refl
+obeyed-time c (FunctionSet dl re g) = refl
+obeyed-time c (GlyphAddress a) = refl
+obeyed-time c (TextAddress a) = refl
+obeyed-time c Standby = refl
+obeyed-time c (SetSr sr) = refl
+obeyed-time c (ToggleReverse line) = refl
+obeyed-time c (Scroll rows) = refl
+obeyed-time c (GraphicAddress a) = refl
+
+pub carriedOut-time : (m : Memories) (c : Control) (t : Transfer) → carriedOut m c t .done .control .time ≡ c .time
+unfolding carriedOut executed written readOut statusRead movedOn
+carriedOut-time m c (Instruct byte) = obeyed-time c (said (modes c) byte)
+carriedOut-time m c (Write byte) = refl
+carriedOut-time m c Status = refl
+carriedOut-time m c Read = either (λ (d : Done). d .control .time ≡ c .time) (c .place .dummy) refl refl
+
+-- without time
+
+not-busy : (c : Control) → InRange c → c .time .timed ≡ false → busy c ≡ false
+not-busy c r e =
+    let none : c .time .left ≡ 0 = omega (arith, subst (λ (b : Bool). c .time .left ≤ longest b) e (r .left)) in
+    ap (ltb 0) none
+
+never-lost : (c : Control) (t : Transfer) → InRange c → c .time .timed ≡ false → lost c t ≡ false
+never-lost c (Instruct byte) r e = not-busy c r e
+never-lost c (Write byte) r e = not-busy c r e
+never-lost c Status r e = refl
+never-lost c Read r e = not-busy c r e
+
+uncharged : (n : ℕ) (t : Time) → t .timed ≡ false → charged n t ≡ t
+uncharged n t e = ap (λ (b : Bool). record { timed = t .timed; left = if b && ltb 0 n then n else t .left }) e
+
+costs-nothing : (n : ℕ) (d : Done) → d .control .time .timed ≡ false → atCost n d ≡ d
+costs-nothing n d e =
+    ap (λ (t : Time). record { control = withTime t (d .control); reply = d .reply; region = d .region })
+    (uncharged n (d .control .time) e)
+
+-- as before there was time
+pub untimed :
+    (m : Memories) (c : Control) (t : Transfer) → InRange c → c .time .timed ≡ false → onTime m c t ≡ carriedOut m c t
+unfolding onTime
+untimed m c t r e =
+    let out : Acted = carriedOut m c t in
+    ap (λ (b : Bool). if b then acted m (nothingDone c) else acted (out .memories) (atCost (cost c t) (out .done))) (never-lost c t r e)
+    ∙ ap (acted (out .memories)) (costs-nothing (cost c t) (out .done) (ap (λ (t : Time). t .timed) (carriedOut-time m c t) ∙ e))

@@ -1,0 +1,26 @@
+-- Carried out alone where there is no time; else lost, or carried out at its cost.
+use borrow.Author.Needs.{needs}
+use borrow.Author.Tests.{not-true}
+use mathlib.Core.Path.{_∙_, ap, sym}
+use Rattle.deeds.specs.Time.{cost}
+use Rattle.deeds.specs.Transfers.{Acted, acted, atCost, onTime}
+use Rattle.deeds.proofs.Untimed.{untimed}
+use Rattle.deeds.proofs.on_time.Statement.{statement}
+use Rattle.deeds.proofs.on_time.Tie as tie
+
+pub on-time-spec : {M : Type 1} → statement M
+unfolding onTime
+on-time-spec =
+    tie.close
+    (tie.spec
+    (λ c κs. search needs)
+    (λ c. c .carry-out .ensures ∙ sym (untimed _ _ _ (c .before .before .before .before .before .before .pre) (not-true _ (c .before .before .before .before .if1 .taken))))
+    (λ c κs. search needs)
+    (λ c κs. search needs)
+    (λ c. rw (c .nothing-done .ensures, ← c .before .before .is-lost .ensures, c .before .if2 .taken))
+    (λ c κs. search needs)
+    (λ c κs. search needs)
+    (λ c κs. search needs)
+    (λ c. let asked = c .before .before .before .before .before .before in let given = asked .before .before .before .before .args in
+    rw (c .at-cost .ensures, c .before .before .before .before .before .cost .ensures, ← asked .before .is-lost .ensures, asked .if2 .left)
+    (ap (λ (a : Acted). acted (a .memories) (atCost (cost (given .control) (given .transfer)) (a .done))) (c .before .carry-out2 .ensures))))

@@ -1,0 +1,21 @@
+-- By the transfer.
+use borrow.Author.Needs.{needs}
+use Rattle.deeds.proofs.time.cost.Statement.{statement}
+use Rattle.deeds.proofs.time.cost.Tie as tie
+
+pub cost-spec : {M : Type 1} → statement M
+cost-spec =
+    tie.close
+    (tie.spec
+    (λ c. search needs)
+    (λ c κs. search needs)
+    (λ c κs. search needs)
+    (λ c κs. search needs)
+    (λ c κs. search needs)
+    (λ c. search needs)
+    (λ c. search needs)
+    (λ c. search needs)
+    (λ c. rw (c .instruction-cost .ensures, c .before .touches .ensures, c .before .before .decode .ensures, c .before .before .before .modes .ensures, c .before .before .before .before .before .transfer .given .1))
+    (λ c. rw (c .enum-told .given .1))
+    (λ c. rw (c .enum-told2 .given .1))
+    (λ c. rw (c .enum-told3 .given .1)))
