@@ -11,12 +11,13 @@ use Rattle.controller.specs.Memories.{Memories}
 use Rattle.controller.specs.State.{InRange, remade}
 use Rattle.controller.specs.Instructions.{obeyed, modes}
 use Rattle.controller.specs.Data.{movedOn}
-use Rattle.deeds.specs.Transfers.{Acted, acted, executed, written, readOut, statusRead, carriedOut, performed}
-use Rattle.deeds.proofs.Kept.{fresh-in-range, obeyed-in-range, movedOn-in-range, dummyRead-in-range}
+use Rattle.deeds.specs.Time.{lost, cost}
+use Rattle.deeds.specs.Transfers.{Acted, acted, executed, written, readOut, statusRead, carriedOut, onTime, performed}
+use Rattle.deeds.proofs.Kept.{fresh-in-range, obeyed-in-range, movedOn-in-range, dummyRead-in-range, cost-most, atCost-in-range, elapsed-in-range}
 use Rattle.events.specs.declared.Transfer.{Transfer}
 use Rattle.events.specs.declared.Transfer.the-variants.{Instruct, Write, Status, Read}
 use Rattle.events.specs.declared.Deed.{Deed}
-use Rattle.events.specs.declared.Deed.the-variants.{Nothing, Whole, Fresh}
+use Rattle.events.specs.declared.Deed.the-variants.{Nothing, Whole, Fresh, Pass}
 use Rattle.links.specs.declared.Rest.{Rest}
 use Rattle.picture.specs.Picture.{Seen}
 use Rattle.repaint.specs.Repaint.{regionWithin}
@@ -42,11 +43,19 @@ module _ (m : Memories) (c : Control) (r : InRange c) where
       either Fit (c .place .dummy) (record { control = dummyRead-in-range c r; region = tt })
       (record { control = movedOn-in-range c r; region = read-within c (movedOn c) r (movedOn-in-range c r) })
 
+  onTime-fit : (t : Transfer) → Fit (onTime m c t .done)
+  unfolding onTime
+  onTime-fit t =
+      let out = carriedOut-fit t in
+      either (λ (a : Acted). Fit (a .done)) (lost c t) (record { control = r; region = tt })
+      (record { control = atCost-in-range (cost c t) (carriedOut m c t .done) (cost-most c t) (out .control); region = out .region })
+
   performed-fit : (d : Deed) → Fit (performed m c d .done)
   unfolding performed
   performed-fit Nothing = record { control = r; region = tt }
-  performed-fit (Whole t) = carriedOut-fit t
+  performed-fit (Whole t) = onTime-fit t
   performed-fit (Fresh pin) = record { control = fresh-in-range (remade c pin); region = tt }
+  performed-fit (Pass eights) = record { control = elapsed-in-range eights c r; region = tt }
 
   -- in the code's form
   pub done-fit : (d : Deed) (after : Memories) (done : Done) → acted after done ≡ performed m c d → Fit done

@@ -25,7 +25,7 @@ use Rattle.picture.specs.Picture.{Seen}
 use Rattle.picture.specs.Refusals.{refusalOf}
 use Rattle.repaint.specs.Repaint.{repainted, countNamed}
 use Rattle.calls.specs.State.{State, freshState, Valid}
-use Rattle.calls.specs.Calls.{Called, refused, accepted, unlessOther, takenOn, Fits, called, left}
+use Rattle.calls.specs.Calls.{Called, refused, accepted, unlessOther, takenOn, timeless, unlessTimeless, Fits, called, left}
 use Rattle.calls.specs.declared.LentOutcome.{LentOutcome}
 
 pub fresh-state-valid : (made : Made) → Valid (freshState made)
@@ -40,7 +40,8 @@ pub of-call :
     → P (called e s frame event)
 unfolding called
 of-call P e s frame event ref acc =
-    either P (eqb (refusalOf (length frame) (length (e .fonts .half)) (length (e .fonts .full))) 0) (by (takenOn s event)) (ref _)
+    either P (eqb (refusalOf (length frame) (length (e .fonts .half)) (length (e .fonts .full))) 0)
+    (either P (timeless (s .control) event) (ref 8) (by (takenOn s event))) (ref _)
   where
     by : (t : Taken) → P (unlessOther e s frame t)
     by OtherLink = ref 5
@@ -74,8 +75,8 @@ module _ (e : Seen) (s : State) (frame : List ℕ) (event : Event) where
   unfolding repainted
   called-length = of-call (λ (k : Called). length (k .frame) ≡ length frame) e s frame event (λ n. refl) (λ c. painted-length _ _ frame)
 
-  -- with frame and fonts of the right lengths a call is what its link makes of the event
-  pub admitted : Fits e frame → called e s frame event ≡ unlessOther e s frame (takenOn s event)
+  -- with frame and fonts of the right lengths a call is what its link makes of the event, or that there is no time
+  pub admitted : Fits e frame → called e s frame event ≡ unlessTimeless e s frame event
   unfolding called
   admitted h = rw h
 

@@ -1,5 +1,6 @@
 -- Document 01, "Refusal numbers": each call whole, with its refusals, its answer, and what it leaves in the state and the frame.
 use Prim.Native.Nat.{ℕ}
+use mathlib.Core.Bool.{Bool, false, not}
 use mathlib.Core.List.{List, [], _∷_}
 use mathlib.Core.Path.{_≡_}
 use lib.ListN.{length}
@@ -9,6 +10,7 @@ use Rattle.controller.specs.declared.Control.{Control}
 use Rattle.controller.specs.Memories.{Memories}
 use Rattle.deeds.specs.Transfers.{Acted, performed}
 use Rattle.events.specs.declared.Event.{Event}
+use Rattle.events.specs.declared.Event.the-variants.{Transfer, Bit, SelectLow, Reset, Pass}
 use Rattle.events.specs.declared.Deed.{Deed}
 use Rattle.events.specs.declared.Deed.the-variants.{Nothing}
 use Rattle.links.specs.declared.Link.{Link}
@@ -60,11 +62,23 @@ abbrev pub reaching : Taken → Deed
 reaching OtherLink = Nothing
 reaching (Carries c) = c .deed
 
--- a call: refusals 1, 2, 3 in their order, then 5
+-- refusal 8: time passes, but the panel has no time
+abbrev pub timeless : Control → Event → Bool
+timeless c (Transfer t) = false
+timeless c (Bit bit) = false
+timeless c SelectLow = false
+timeless c (Reset pin) = false
+timeless c (Pass eights) = not (c .time .timed)
+
+abbrev pub unlessTimeless : Seen → State → List ℕ → Event → Called
+unlessTimeless e s frame event =
+    if timeless (s .control) event then refused s frame 8 else unlessOther e s frame (takenOn s event)
+
+-- a call: refusals 1, 2, 3 in their order, then 8, then 5
 unfoldable pub called : Seen → State → List ℕ → Event → Called
 called e s frame event =
     if eqb (lentRefusal e frame) 0
-    then unlessOther e s frame (takenOn s event)
+    then unlessTimeless e s frame event
     else refused s frame (lentRefusal e frame)
 
 -- the answer of a refused call on lent memories

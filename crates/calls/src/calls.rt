@@ -19,7 +19,7 @@ ghost use Rattle.deeds.specs.Transfers.{acted};
 ghost use Rattle.picture.specs.Picture.{seen};
 ghost use Rattle.repaint.specs.Repaint.{regionWithin};
 ghost use Rattle.calls.specs.State.{state};
-ghost use Rattle.calls.specs.Calls.{refusedOutcome, accepted, called, left};
+ghost use Rattle.calls.specs.Calls.{refusedOutcome, accepted, timeless, called, left};
 
 // A refused call: nothing changes, reply 0, count 0.
 fn refused(control: Control, link: Link, number: u8) -> LentOutcome
@@ -64,6 +64,19 @@ fn show(
     }
 }
 
+// Whether time is to pass on a panel that has none.
+fn timeless(control: Control, event: Event) -> bool
+    ensures { λ r. ⌜ r ≡ timeless control event ⌝ }
+{
+    match event {
+        Event::Transfer(_) => false,
+        Event::Bit(_) => false,
+        Event::SelectLow => false,
+        Event::Reset(_) => false,
+        Event::Pass(_) => !control.time.timed,
+    }
+}
+
 // An event comes to the panel.
 pub fn call(
     text: &mut [u8; 128],
@@ -84,6 +97,9 @@ pub fn call(
     let number = refusal(frame.len(), half.len(), full.len());
     if number != 0 {
         return refused(control, link, number);
+    }
+    if timeless(control, event) {
+        return refused(control, link, 8);
     }
     let taken = links::take(control.function.dl, link, event);
     match taken {

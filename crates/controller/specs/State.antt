@@ -35,7 +35,7 @@ freshControl made =
       sr = false;
       view = freshView;
       standby = false;
-      time = record { timed = made .time; left = 0 };
+      time = record { timed = made .time; remaining = 0 };
     }
 
 -- reset takes the interface pin: what the state keeps, and the pin, are what the next state is made with
@@ -52,7 +52,7 @@ abbrev pub RowInRange : Waiting → Type 0
 RowInRange Nothing = Unit {0}
 RowInRange (Row y) = y < 64
 
--- the most microseconds that are left: those of a clear, or none where there is no time
+-- the most microseconds that remain: those of a clear, or none where there is no time
 abbrev pub longest : Bool → ℕ
 longest timed = if timed then 1600 else 0
 
@@ -64,7 +64,7 @@ pub record InRange (c : Control) : Type 0 where
   pub scroll : c .view .scroll < 64
   pub shift : c .view .shift < 16
   pub lines : length (c .view .reversed) ≡ 4
-  pub left : c .time .left ≤ longest (c .time .timed)
+  pub remaining : c .time .remaining ≤ longest (c .time .timed)
 
 -- a state that may be handed to a call: its controls lie within their ranges, and its memories have their sizes
 pub record AllInRange (m : Memories) (c : Control) : Type 0 where

@@ -160,7 +160,7 @@ impl Control {
             standby: false,
             time: Time {
                 timed: made.time,
-                left: 0,
+                remaining: 0,
             },
         }
     }

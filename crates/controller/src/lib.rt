@@ -55,7 +55,7 @@ pub struct View {
 // Whether the panel has time, and for how many microseconds it is busy yet.
 pub struct Time {
     pub timed: bool,
-    pub left: u16,
+    pub remaining: u16,
 }
 
 pub struct Control {

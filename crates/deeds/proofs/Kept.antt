@@ -46,9 +46,9 @@ record ViewIn (v : View) : Type 0 where
   shift : v .shift < 16
   lines : length (v .reversed) ≡ 4
 
--- what is left is at most what a clear costs, and nothing without time
-abbrev LeftIn : Time → Type 0
-LeftIn t = t .left ≤ longest (t .timed)
+-- what remains is at most what a clear costs, and nothing without time
+abbrev TimeIn : Time → Type 0
+TimeIn t = t .remaining ≤ longest (t .timed)
 
 place-in : (c : Control) → InRange c → PlaceIn (c .place)
 place-in c r = record { counter = r .counter; row = r .row; waiting = r .waiting }
@@ -56,7 +56,7 @@ place-in c r = record { counter = r .counter; row = r .row; waiting = r .waiting
 view-in : (c : Control) → InRange c → ViewIn (c .view)
 view-in c r = record { scroll = r .scroll; shift = r .shift; lines = r .lines }
 
-in-range : (c : Control) → PlaceIn (c .place) → ViewIn (c .view) → LeftIn (c .time) → InRange c
+in-range : (c : Control) → PlaceIn (c .place) → ViewIn (c .view) → TimeIn (c .time) → InRange c
 in-range c p v t =
     record {
       counter = p .counter;
@@ -65,7 +65,7 @@ in-range c p v t =
       scroll = v .scroll;
       shift = v .shift;
       lines = v .lines;
-      left = t;
+      remaining = t;
     }
 
 pub fresh-in-range : (made : Made) → InRange (freshControl made)
@@ -78,7 +78,7 @@ fresh-in-range made =
       scroll = omega arith;
       shift = omega arith;
       lines = refl;
-      left = either (λ (n : ℕ). 0 ≤ n) (made .time) (omega arith) (omega arith);
+      remaining = either (λ (n : ℕ). 0 ≤ n) (made .time) (omega arith) (omega arith);
     }
 
 pub fresh-valid : (made : Made) → AllInRange freshMemories (freshControl made)
@@ -125,16 +125,16 @@ module _ (c : Control) (r : InRange c) where
   -- an entry that leaves place and view, but for a waiting row
   drops : {d : Control} → d .place ≡ withWaiting waiting.Nothing (c .place) → d .view ≡ c .view → d .time ≡ c .time → InRange d
   drops {d} p v t =
-      in-range d (subst PlaceIn (sym p) (dropped-in _ (place-in c r))) (subst ViewIn (sym v) (view-in c r)) (subst LeftIn (sym t) (r .left))
+      in-range d (subst PlaceIn (sym p) (dropped-in _ (place-in c r))) (subst ViewIn (sym v) (view-in c r)) (subst TimeIn (sym t) (r .remaining))
 
   points : (t : Target) (k : ℕ) → k < limit t → InRange (withPlace (pointed t k (c .place .row)) (begun c))
-  points t k h = in-range _ (pointed-in t k _ h (r .row)) (view-in c r) (r .left)
+  points t k h = in-range _ (pointed-in t k _ h (r .row)) (view-in c r) (r .remaining)
 
   looks : (v : View) → ViewIn v → InRange (withView v (begun c))
-  looks v h = in-range _ (dropped-in _ (place-in c r)) h (r .left)
+  looks v h = in-range _ (dropped-in _ (place-in c r)) h (r .remaining)
 
   homes : InRange (home (begun c))
-  homes = in-range _ (pointed-in Text 0 _ (omega arith) (r .row)) (home-in _ (view-in c r)) (r .left)
+  homes = in-range _ (pointed-in Text 0 _ (omega arith) (r .row)) (home-in _ (view-in c r)) (r .remaining)
 
   moves : (t : Target) (right : Bool) → Keeps (ifText t (MoveCursor right))
   unfolding Keeps obeyed
@@ -165,7 +165,7 @@ module _ (c : Control) (r : InRange c) where
   extended-kept 10h-1Fh b = r
   extended-kept 20h-3Fh b = drops refl refl refl
   extended-kept 40h-7Fh b = either Keeps (c .sr) (looks _ (scrolled-in _ (c .view) (omega arith) (view-in c r))) r
-  extended-kept 80h-FFh b = in-range _ (addressed-in (c .place .waiting) (c .place) _ (r .waiting) (place-in c r)) (view-in c r) (r .left)
+  extended-kept 80h-FFh b = in-range _ (addressed-in (c .place .waiting) (c .place) _ (r .waiting) (place-in c r)) (view-in c r) (r .remaining)
 
   pub obeyed-in-range : (b : ℕ) → InRange (obeyed c (said (modes c) b))
   unfolding said Keeps
@@ -212,11 +212,11 @@ unfolding movedOn
 movedOn-in-range c r =
     in-range _ (moved-in (c .entry .id) (c .place) (place-in c r))
     (either ViewIn (shifts c) (shifted-in (not (c .entry .id)) (c .view) (view-in c r)) (view-in c r))
-    (r .left)
+    (r .remaining)
 
 pub dummyRead-in-range : (c : Control) → InRange c → InRange (dummyRead c)
 dummyRead-in-range c r =
-    in-range (dummyRead c) (record { counter = r .counter; row = r .row; waiting = tt }) (view-in c r) (r .left)
+    in-range (dummyRead c) (record { counter = r .counter; row = r .row; waiting = tt }) (view-in c r) (r .remaining)
 
 -- storing a byte keeps the sizes of the memories
 stored-sizes :
@@ -250,11 +250,8 @@ statusRead-valid m c v = v
 
 -- time
 
-timed-in-range : (t : Time) (c : Control) → LeftIn t → InRange c → InRange (withTime t c)
+timed-in-range : (t : Time) (c : Control) → TimeIn t → InRange c → InRange (withTime t c)
 timed-in-range t c h r = in-range (withTime t c) (place-in c r) (view-in c r) h
-
-timed-valid : (t : Time) (m : Memories) (c : Control) → LeftIn t → AllInRange m c → AllInRange m (withTime t c)
-timed-valid t m c h v = record { control = timed-in-range t c h (v .control); text = v .text; glyph = v .glyph; graphic = v .graphic }
 
 instruction-most : (t : Touch) → instructionCost t ≤ 1600
 instruction-most touch.Nothing = omega arith
@@ -262,27 +259,32 @@ instruction-most touch.Counter = omega arith
 instruction-most touch.All = omega arith
 instruction-most touch.AllAndText = omega arith
 
-cost-most : (c : Control) (t : Transfer) → cost c t ≤ 1600
+pub cost-most : (c : Control) (t : Transfer) → cost c t ≤ 1600
 cost-most c (Instruct byte) = instruction-most (touches (said (modes c) byte))
 cost-most c (Write byte) = omega arith
 cost-most c Status = omega arith
 cost-most c Read = omega arith
 
-charged-left : (n : ℕ) (t : Time) → n ≤ 1600 → LeftIn t → LeftIn (charged n t)
-charged-left n t most h = by (t .timed) (ltb 0 n) h
+charged-in : (n : ℕ) (t : Time) → n ≤ 1600 → TimeIn t → TimeIn (charged n t)
+charged-in n t most h = by (t .timed) (ltb 0 n) h
   where
-    by : (timed costs : Bool) → t .left ≤ longest timed → (if timed && costs then n else t .left) ≤ longest timed
+    by : (timed costs : Bool) → t .remaining ≤ longest timed → (if timed && costs then n else t .remaining) ≤ longest timed
     by true true h = most
     by true false h = h
     by false costs h = h
 
-elapsed-left : (eights : ℕ) (t : Time) → LeftIn t → LeftIn (elapsed eights t)
-elapsed-left eights t h = omega (arith, h)
+elapsed-in : (eights : ℕ) (t : Time) → TimeIn t → TimeIn (elapsed eights t)
+elapsed-in eights t h = omega (arith, h)
+
+pub elapsed-in-range : (eights : ℕ) (c : Control) → InRange c → InRange (withTime (elapsed eights (c .time)) c)
+elapsed-in-range eights c r = timed-in-range _ c (elapsed-in eights (c .time) (r .remaining)) r
+
+pub atCost-in-range : (n : ℕ) (d : Done) → n ≤ 1600 → InRange (d .control) → InRange (atCost n d .control)
+atCost-in-range n d most r = timed-in-range _ (d .control) (charged-in n (d .control .time) most (r .remaining)) r
 
 atCost-valid : (n : ℕ) (a : Acted) → n ≤ 1600 → ActedValid a → AllInRange (a .memories) (atCost n (a .done) .control)
 atCost-valid n a most v =
-    timed-valid (charged n (a .done .control .time)) (a .memories) (a .done .control)
-    (charged-left n (a .done .control .time) most (v .control .left)) v
+    record { control = atCost-in-range n (a .done) most (v .control); text = v .text; glyph = v .glyph; graphic = v .graphic }
 
 module _ (m : Memories) (c : Control) (v : AllInRange m c) where
   carriedOut-valid : (t : Transfer) → ActedValid (carriedOut m c t)
@@ -301,4 +303,5 @@ module _ (m : Memories) (c : Control) (v : AllInRange m c) where
   performed-valid deed.Nothing = v
   performed-valid (deed.Whole t) = onTime-valid t
   performed-valid (deed.Fresh pin) = fresh-valid (remade c pin)
-  performed-valid (deed.Pass eights) = timed-valid (elapsed eights (c .time)) m c (elapsed-left eights (c .time) (v .control .left)) v
+  performed-valid (deed.Pass eights) =
+      record { control = elapsed-in-range eights c (v .control); text = v .text; glyph = v .glyph; graphic = v .graphic }

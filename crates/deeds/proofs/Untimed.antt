@@ -53,7 +53,7 @@ carriedOut-time m c Read = either (λ (d : Done). d .control .time ≡ c .time) 
 
 not-busy : (c : Control) → InRange c → c .time .timed ≡ false → busy c ≡ false
 not-busy c r e =
-    let none : c .time .left ≡ 0 = omega (arith, subst (λ (b : Bool). c .time .left ≤ longest b) e (r .left)) in
+    let none : c .time .remaining ≡ 0 = omega (arith, subst (λ (b : Bool). c .time .remaining ≤ longest b) e (r .remaining)) in
     ap (ltb 0) none
 
 never-lost : (c : Control) (t : Transfer) → InRange c → c .time .timed ≡ false → lost c t ≡ false
@@ -63,7 +63,7 @@ never-lost c Status r e = refl
 never-lost c Read r e = not-busy c r e
 
 uncharged : (n : ℕ) (t : Time) → t .timed ≡ false → charged n t ≡ t
-uncharged n t e = ap (λ (b : Bool). record { timed = t .timed; left = if b && ltb 0 n then n else t .left }) e
+uncharged n t e = ap (λ (b : Bool). record { timed = t .timed; remaining = if b && ltb 0 n then n else t .remaining }) e
 
 costs-nothing : (n : ℕ) (d : Done) → d .control .time .timed ≡ false → atCost n d ≡ d
 costs-nothing n d e =

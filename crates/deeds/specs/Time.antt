@@ -13,9 +13,9 @@ use Rattle.controller.specs.declared.Time.{Time}
 use Rattle.controller.specs.declared.Control.{Control}
 use Rattle.controller.specs.Instructions.{modes}
 
--- busy means more than 0 microseconds left; a panel without time never is
+-- busy means more than 0 microseconds remain; a panel without time never is
 abbrev pub busy : Control → Bool
-busy c = ltb 0 (c .time .left)
+busy c = ltb 0 (c .time .remaining)
 
 -- while busy, status shows bit 7 set
 abbrev pub busyBit : Control → ℕ
@@ -44,8 +44,8 @@ cost c Read = 72
 
 -- what costs something makes a panel with time busy for as long
 abbrev pub charged : ℕ → Time → Time
-charged n t = record { timed = t .timed; left = if t .timed && ltb 0 n then n else t .left }
+charged n t = record { timed = t .timed; remaining = if t .timed && ltb 0 n then n else t .remaining }
 
 -- so many times 8 microseconds pass: the remaining time falls to 0 and no lower
 abbrev pub elapsed : ℕ → Time → Time
-elapsed eights t = record { timed = t .timed; left = t .left - eights * 8 }
+elapsed eights t = record { timed = t .timed; remaining = t .remaining - eights * 8 }

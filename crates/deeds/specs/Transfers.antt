@@ -64,7 +64,7 @@ carriedOut m c Read = acted m (readOut m c)
 abbrev pub nothingDone : Control → Done
 nothingDone c = record { control = c; reply = 0; region = Nothing }
 
--- what was done, with what it costs left
+-- what was done, at what it costs
 abbrev pub atCost : ℕ → Done → Done
 atCost n d = record { control = withTime (charged n (d .control .time)) (d .control); reply = d .reply; region = d .region }
 

@@ -153,7 +153,7 @@ fn nothing_done(control: Control) -> Done
     }
 }
 
-// What was done, with what it costs left.
+// What was done, at what it costs.
 fn at_cost(done: Done, cost: u16) -> Done
     ensures { λ r. ⌜ r ≡ atCost cost done ⌝ }
 {

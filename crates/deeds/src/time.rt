@@ -10,7 +10,7 @@ ghost use Rattle.deeds.specs.Time.{busy, busyBit, lost, instructionCost,
 fn is_busy(control: Control) -> bool
     ensures { λ r. ⌜ r ≡ busy control ⌝ }
 {
-    0 < control.time.left
+    0 < control.time.remaining
 }
 
 // Bit 7 of a status read.
@@ -73,7 +73,7 @@ pub(crate) fn charged(time: Time, cost: u16) -> Time
         return time;
     }
     let mut next = time;
-    next.left = cost;
+    next.remaining = cost;
     next
 }
 
@@ -83,10 +83,10 @@ pub(crate) fn elapsed(time: Time, eights: u8) -> Time
 {
     let passed = eights as u16 * 8;
     let mut next = time;
-    if time.left <= passed {
-        next.left = 0;
+    if time.remaining <= passed {
+        next.remaining = 0;
         return next;
     }
-    next.left = time.left - passed;
+    next.remaining = time.remaining - passed;
     next
 }
