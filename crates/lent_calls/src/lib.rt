@@ -140,3 +140,35 @@ pub fn reset(
         phase,
     )
 }
+
+// So many times 8 microseconds pass, on either link.
+pub fn pass(
+    text: &mut [u8; 128],
+    glyph: &mut [u8; 128],
+    graphic: &mut [u8; 2048],
+    control: Control,
+    link: Link,
+    eights: u8,
+    frame: &mut [u8],
+    half: &[u8],
+    full: &[u8],
+    phase: bool,
+) -> LentOutcome
+    requires { ⌜ InRange control ⌝ }
+    ensures { λ r. ⌜ left r (after text glyph graphic) (now (frame .exit)) ≡ called (seen half full phase) (state (before text glyph graphic) control link) (now (frame .entry)) (event.Pass eights) ⌝ }
+    ensures valid { λ r. ⌜ InRange (r .control) ⌝ }
+{
+    let pass = Event::Pass(eights);
+    call(
+        text,
+        glyph,
+        graphic,
+        control,
+        link,
+        pass,
+        frame,
+        half,
+        full,
+        phase,
+    )
+}

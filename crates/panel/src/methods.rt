@@ -133,6 +133,22 @@ impl Panel {
         self.call(Event::Reset(pin), frame, half, full, phase)
     }
 
+    // So many times 8 microseconds pass, on either link.
+    pub fn pass(
+        self,
+        eights: u8,
+        frame: &mut [u8],
+        half: &[u8],
+        full: &[u8],
+        phase: bool,
+    ) -> Outcome
+        requires { ⌜ Valid (stateOf self) ⌝ }
+        ensures { λ r. ⌜ handed r (now (frame .exit)) ≡ called (seen half full phase) (stateOf self) (now (frame .entry)) (event.Pass eights) ⌝ }
+        ensures valid { λ r. ⌜ Valid (stateOf (r .panel)) ⌝ }
+    {
+        self.call(Event::Pass(eights), frame, half, full, phase)
+    }
+
     // The whole picture, drawn afresh into the frame; answers the refusal number.
     pub fn draw(self, frame: &mut [u8], half: &[u8], full: &[u8], phase: bool) -> u8
         ensures { λ r. ⌜ drawing r (now (frame .exit)) ≡ drawn (seen half full phase) (memoriesOf self) (self .control) (now (frame .entry)) ⌝ }

@@ -6,7 +6,9 @@ use crate::memories::{half_of, Half, Panel, Target};
 impl Panel {
     /// Text memory 128 bytes, glyph memory 128, graphic memory 2,048 (high
     /// byte of each word first, graphic row by row), 23 bytes of place, flags
-    /// and view, 10 bytes of the link. What does not apply is 0.
+    /// and view, 3 bytes of time (whether it has time; the microseconds left,
+    /// high byte first), 10 bytes of the link: 2,340 in all. What does not
+    /// apply is 0.
     pub fn bytes(&self) -> Vec<u8> {
         let mut out = Vec::new();
         for word in self.text {
@@ -49,6 +51,8 @@ impl Panel {
         for line in self.reversed {
             out.push(u8::from(line));
         }
+        out.push(u8::from(self.time));
+        push_word(&mut out, self.left);
         out.extend(link_bytes(&self.link));
         out
     }

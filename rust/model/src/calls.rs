@@ -1,4 +1,5 @@
-//! The public calls of the panel, and refusal numbers 1, 2, 3 and 5.
+//! The public calls of the panel, and refusal numbers 1, 2, 3 and 5; and 8
+//! for time passing on a panel without it.
 
 use crate::links::{Link, Transfer};
 use crate::memories::Panel;
@@ -119,6 +120,33 @@ impl Panel {
         }
     }
 
+    /// Time passes, on either link: 8 microseconds for each of `eights`. The
+    /// time left falls to 0 and no lower; nothing else changes and no byte is
+    /// named. The frame and fonts are checked all the same.
+    pub fn pass(
+        &mut self,
+        eights: u8,
+        frame: &mut [u8],
+        half: &[u8],
+        full: &[u8],
+        _phase: bool,
+    ) -> Outcome {
+        let number = buffers_number(frame, half, full);
+        if number != 0 {
+            return refused(number);
+        }
+        // 8: a panel without time.
+        if !self.time {
+            return refused(8);
+        }
+        self.left = self.left.saturating_sub(8 * u16::from(eights));
+        Outcome {
+            number: 0,
+            reply: 0,
+            count: 0,
+        }
+    }
+
     /// Reset takes the interface pin: 0 serial, 1 parallel. It names all
     /// 1,024 bytes.
     pub fn reset(
@@ -133,7 +161,8 @@ impl Panel {
         if number != 0 {
             return refused(number);
         }
-        *self = Panel::fresh(parallel);
+        // Whether it has time survives.
+        *self = Panel::made(parallel, self.time);
         let lent = Lent { half, full, phase };
         Outcome {
             number: 0,

@@ -4,23 +4,33 @@
 #[derive(Clone, Copy, PartialEq, Eq, Debug)]
 pub struct Record {
     /// 0 instruction write, 1 data write, 2 status read, 3 data read, 4 eight
-    /// serial bits, 5 chip select low, 6 reset.
+    /// serial bits, 5 chip select low, 6 reset; for a panel with time also 7,
+    /// value times 8 microseconds passed.
     pub kind: u8,
     pub value: u8,
 }
 
-/// A small reader that holds the capture it was lent.
+/// A small reader that holds the capture it was lent. What a record is depends
+/// on whether the panel it reads for has time.
 #[derive(Clone, Copy, PartialEq, Eq, Debug)]
 pub struct Reader<'a> {
     capture: &'a [u8],
     position: usize,
+    time: bool,
 }
 
 impl<'a> Reader<'a> {
+    /// A reader for a panel without time.
     pub fn new(capture: &'a [u8]) -> Reader<'a> {
+        Reader::made(capture, false)
+    }
+
+    /// A reader for a panel with or without time.
+    pub fn made(capture: &'a [u8], time: bool) -> Reader<'a> {
         Reader {
             capture,
             position: 0,
+            time,
         }
     }
 
@@ -46,8 +56,9 @@ impl<'a> Reader<'a> {
         }
         let kind = rest[2];
         let value = rest[3];
-        // 8: kind above 6.
-        if kind > 6 {
+        // 8: kind above 6, with time above 7.
+        let last = if self.time { 7 } else { 6 };
+        if kind > last {
             return Err(8);
         }
         // 9: value not allowed.
@@ -59,7 +70,7 @@ impl<'a> Reader<'a> {
     }
 }
 
-/// Kinds 2, 3, 5 need value 0; 6 needs 0 or 1.
+/// Kinds 2, 3, 5 need value 0; 6 needs 0 or 1; the others take any.
 fn allowed(kind: u8, value: u8) -> bool {
     match kind {
         2 | 3 | 5 => value == 0,

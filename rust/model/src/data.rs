@@ -4,6 +4,7 @@ use crate::instructions::{decide, display_left, display_right, execute};
 use crate::links::Transfer;
 use crate::memories::{half_of, with_half, Half, Panel, Target};
 use crate::named::{named, Named};
+use crate::time::{cost, lost};
 
 /// What a whole transfer answers: its reply byte (0 unless it reads) and the
 /// bytes it names for repaint.
@@ -12,9 +13,23 @@ pub(crate) struct Whole {
     pub named: Named,
 }
 
-/// The panel does one whole transfer, however it came over the link.
+/// The panel does one whole transfer, however it came over the link, or loses
+/// it: then all stays, the time left included, and the reply is 0.
 pub(crate) fn act(panel: &mut Panel, transfer: Transfer) -> Whole {
     let before = panel.clone();
+    let reply = if lost(panel, transfer) {
+        0
+    } else {
+        carry_out(panel, transfer)
+    };
+    let named = named(&before, transfer, panel);
+    Whole { reply, named }
+}
+
+/// Does the transfer and answers its reply. With time, what it costs is left
+/// from then on; what costs nothing leaves the time as it is.
+fn carry_out(panel: &mut Panel, transfer: Transfer) -> u8 {
+    let cost = cost(panel, transfer);
     let reply = match transfer {
         Transfer::InstructionWrite(byte) => {
             let instruction = decide(panel, byte);
@@ -28,8 +43,10 @@ pub(crate) fn act(panel: &mut Panel, transfer: Transfer) -> Whole {
         Transfer::StatusRead => status_read(panel),
         Transfer::DataRead => data_read(panel),
     };
-    let named = named(&before, transfer, panel);
-    Whole { reply, named }
+    if panel.time && cost > 0 {
+        panel.left = cost;
+    }
+    reply
 }
 
 /// Data write: store into the next half; after the low half, step. A write
@@ -57,9 +74,10 @@ fn data_read(panel: &mut Panel) -> u8 {
     answer
 }
 
-/// Status read: busy bit 0, bit 6 zero, the counter; it changes nothing.
+/// Status read: bit 7 set while busy, bit 6 zero, the counter; it changes
+/// nothing.
 fn status_read(panel: &Panel) -> u8 {
-    panel.counter
+    u8::from(panel.busy()) << 7 | panel.counter
 }
 
 /// The word at target, counter and (for graphic memory) graphic row.

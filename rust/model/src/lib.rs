@@ -14,6 +14,9 @@
 //! | Bytes named for repaint | `named` |
 //! | Refusal numbers | `calls` |
 //! | Captures | `captures`, `replay` |
+//!
+//! A panel may be made with time, as document 02 asks: `time` says when it is
+//! busy, what that loses and what each transfer costs.
 
 mod bytes;
 mod calls;
@@ -28,6 +31,7 @@ mod picture;
 mod replay;
 mod sender;
 mod serial;
+mod time;
 
 pub use calls::Outcome;
 pub use captures::{Reader, Record};

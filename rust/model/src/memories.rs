@@ -56,12 +56,22 @@ pub struct Panel {
     /// Which of the four lines are reversed.
     pub reversed: [bool; 4],
 
+    /// Whether it was made with time, which no call changes.
+    pub time: bool,
+    /// Microseconds left in which it is busy, 0..1,600; without time 0.
+    pub left: u16,
+
     pub link: Link,
 }
 
 impl Panel {
-    /// Fresh, also after reset. The interface pin: 0 serial, 1 parallel.
+    /// Fresh, without time. The interface pin: 0 serial, 1 parallel.
     pub fn fresh(parallel: bool) -> Panel {
+        Panel::made(parallel, false)
+    }
+
+    /// Fresh, also after reset, with or without time.
+    pub fn made(parallel: bool, time: bool) -> Panel {
         Panel {
             // Text bytes 20h, the other memories 0.
             text: [0x2020; 64],
@@ -91,6 +101,9 @@ impl Panel {
             scroll: 0,
             shift: 0,
             reversed: [false; 4],
+            // Not busy.
+            time,
+            left: 0,
             // Link idle.
             link: Link::idle(parallel),
         }

@@ -4,6 +4,7 @@ use crate::instructions::{decide, Instruction};
 use crate::links::Transfer;
 use crate::memories::{Half, Panel, Target};
 use crate::picture::{image_of, shown_row, shown_word};
+use crate::time::lost;
 
 /// A set of the 1,024 frame places.
 #[derive(Clone, PartialEq, Eq, Debug)]
@@ -41,6 +42,10 @@ impl Named {
 /// The bytes that a whole transfer names, given the panel before and after.
 /// The first line that applies decides.
 pub fn named(before: &Panel, transfer: Transfer, after: &Panel) -> Named {
+    // A lost transfer names no bytes.
+    if lost(before, transfer) {
+        return Named::none();
+    }
     if names_all(before, transfer, after) {
         return Named::all();
     }

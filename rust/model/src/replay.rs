@@ -39,7 +39,8 @@ pub fn replay(
     let mut answers = Vec::new();
     // As a call it refuses with 1, 2, 3 before it reads a record.
     let mut number = buffers_number(frame, half, full);
-    let mut reader = Reader::new(capture);
+    // No record changes whether the panel has time.
+    let mut reader = Reader::made(capture, panel.time);
     while number == 0 {
         let record = match reader.read() {
             Ok(record) => record,
@@ -83,7 +84,8 @@ fn obey(
         4 => eight_bits(panel, value, frame, half, full, phase),
         5 => panel.select_low(frame, half, full, phase),
         // 0 serial, 1 parallel.
-        _ => panel.reset(value == 1, frame, half, full, phase),
+        6 => panel.reset(value == 1, frame, half, full, phase),
+        _ => panel.pass(value, frame, half, full, phase),
     }
 }
 

@@ -1,6 +1,6 @@
 //! A panel with its frame and fonts, and a seeded generator.
 
-use model::{Half, Link, Outcome, Panel, Target, Transfer};
+use model::{send, Half, Kind, Link, Outcome, Panel, Target, Transfer};
 
 /// A small xorshift generator.
 pub struct Dice(u64);
@@ -80,7 +80,36 @@ impl Dice {
         panel.reversed = std::array::from_fn(|_| self.flag());
         panel
     }
+
+    /// A made-up state with time, busy or not.
+    pub fn timed(&mut self, parallel: bool) -> Panel {
+        let mut panel = self.panel(parallel);
+        panel.time = true;
+        panel.left = match self.below(4) {
+            0 => 0,
+            1 => 1 + self.below(72) as u16,
+            _ => self.below(1_601) as u16,
+        };
+        panel
+    }
+
+    /// A made-up state with time that is busy.
+    pub fn busy(&mut self, parallel: bool) -> Panel {
+        let mut panel = self.timed(parallel);
+        panel.left = panel.left.max(1);
+        panel
+    }
 }
+
+/// The three links: whole bytes, half bytes, serial.
+#[derive(Clone, Copy, PartialEq, Eq, Debug)]
+pub enum Over {
+    Bytes,
+    HalfBytes,
+    Serial,
+}
+
+pub const LINKS: [Over; 3] = [Over::Bytes, Over::HalfBytes, Over::Serial];
 
 /// A panel, its frame and the lent fonts. Every accepted call is checked: the
 /// frame stays the picture of the present state.
@@ -120,6 +149,18 @@ impl Bench {
         let mut panel = Panel::fresh(true);
         panel.dl = false;
         Bench::with(panel)
+    }
+
+    /// The panel with an idle link of this sort.
+    pub fn over(over: Over, mut panel: Panel) -> Bench {
+        panel.link = Link::idle(over != Over::Serial);
+        panel.dl = over == Over::Bytes;
+        Bench::with(panel)
+    }
+
+    /// Fresh, with time.
+    pub fn timed(over: Over) -> Bench {
+        Bench::over(over, Panel::made(true, true))
     }
 
     pub fn picture(&self) -> Vec<u8> {
@@ -166,6 +207,54 @@ impl Bench {
     pub fn read(&mut self) -> (u8, usize) {
         let outcome = self.call(Transfer::DataRead);
         (outcome.reply, outcome.count)
+    }
+
+    /// One whole write over the panel's own link, begun idle; answers the
+    /// count.
+    pub fn write(&mut self, register: bool, byte: u8) -> usize {
+        if let Link::Serial(_) = self.panel.link {
+            let mut buffer = [0; 3];
+            assert_eq!(send(register, byte, &mut buffer), 0);
+            return self.serial_bytes(&buffer);
+        }
+        let transfer = if register {
+            Transfer::DataWrite
+        } else {
+            Transfer::InstructionWrite
+        };
+        if self.panel.dl {
+            return self.call(transfer(byte)).count;
+        }
+        let upper = self.call(transfer(byte & 0xF0));
+        assert_eq!((upper.reply, upper.count), (0, 0));
+        self.call(transfer(byte << 4)).count
+    }
+
+    /// One whole read over the panel's own link, begun idle.
+    pub fn whole_read(&mut self, kind: Kind) -> (u8, usize) {
+        let transfer = match kind {
+            Kind::StatusRead => Transfer::StatusRead,
+            _ => Transfer::DataRead,
+        };
+        let first = self.call(transfer);
+        if self.panel.dl {
+            return (first.reply, first.count);
+        }
+        let second = self.call(transfer);
+        assert_eq!((first.reply & 0x0F, second.reply & 0x0F), (0, 0));
+        assert_eq!(second.count, 0);
+        (first.reply | second.reply >> 4, first.count)
+    }
+
+    /// Time passes on a panel with time; the frame is not touched.
+    pub fn pass(&mut self, eights: u8) {
+        let frame = self.frame.clone();
+        let (half, full) = (&self.half, &self.full);
+        let outcome = self
+            .panel
+            .pass(eights, &mut self.frame, half, full, self.phase);
+        assert_eq!((outcome.number, outcome.reply, outcome.count), (0, 0, 0));
+        assert_eq!(self.frame, frame);
     }
 
     /// One serial bit; answers the count.

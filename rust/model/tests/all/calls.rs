@@ -1,12 +1,12 @@
 //! Readings 31 to 36: refusal order, captures, replay and its lines.
 
 use std::io::Write;
-use std::process::{Command, Stdio};
+use std::process::{Command, Output, Stdio};
 
 use crate::bench::{Bench, Dice};
-use model::{printed, replay, Answer, Half, Panel, Reader, Record, Replayed, Transfer};
+use model::{printed, replay, Answer, Half, Outcome, Panel, Reader, Record, Replayed, Transfer};
 
-fn records(list: &[(u8, u8)]) -> Vec<u8> {
+pub fn records(list: &[(u8, u8)]) -> Vec<u8> {
     list.iter()
         .flat_map(|&(kind, value)| [0xA5, 0x5A, kind, value])
         .collect()
@@ -104,16 +104,24 @@ fn reading_35_printed_lines() {
     assert_eq!(printed(&replayed), format!("{body}stop 11 9\n"));
 }
 
-/// What the program prints for a capture on its standard input.
-fn program(capture: &[u8]) -> String {
+/// The program with these arguments and a capture on its standard input.
+pub fn program_with(arguments: &[&str], capture: &[u8]) -> Output {
     let mut child = Command::new(env!("CARGO_BIN_EXE_model"))
+        .args(arguments)
         .stdin(Stdio::piped())
         .stdout(Stdio::piped())
+        .stderr(Stdio::piped())
         .spawn()
         .unwrap();
-    child.stdin.take().unwrap().write_all(capture).unwrap();
-    let output = child.wait_with_output().unwrap();
-    assert!(output.status.success());
+    // A program that refuses its arguments may be gone before it is written to.
+    let _ = child.stdin.take().unwrap().write_all(capture);
+    child.wait_with_output().unwrap()
+}
+
+/// What the program prints for a capture.
+fn program(capture: &[u8]) -> String {
+    let output = program_with(&[], capture);
+    assert!(output.status.success() && output.stderr.is_empty());
     String::from_utf8(output.stdout).unwrap()
 }
 
@@ -189,11 +197,12 @@ fn reading_36_no_trace_of_what_is_over() {
     assert_eq!(bench.panel.bytes(), Panel::fresh(false).bytes());
 }
 
-/// Replay is the calls one after another.
+/// Replay is the calls one after another, with time and without.
 #[test]
 fn replay_equals_the_calls() {
     let mut dice = Dice::new(71);
-    for _ in 0..300 {
+    for round in 0..400 {
+        let time = round % 4 != 0;
         let length = dice.below(30);
         let list: Vec<(u8, u8)> = (0..length)
             .map(|_| match dice.below(30) {
@@ -202,11 +211,13 @@ fn replay_equals_the_calls() {
                 2..=11 => (0, dice.byte()),
                 12..=21 => (1, dice.text_byte()),
                 22..=24 => (2, 0),
+                25..=26 if time => (7, dice.byte()),
+                27 => (7, dice.byte()),
                 _ => (3, 0),
             })
             .collect();
-        let mut bench = Bench::parallel();
-        let mut panel = Panel::fresh(true);
+        let mut bench = Bench::with(Panel::made(true, time));
+        let mut panel = Panel::made(true, time);
         let mut frame = bench.picture();
         let (half, full) = (bench.half.clone(), bench.full.clone());
         let replayed = replay(&mut panel, &records(&list), &mut frame, &half, &full, true);
@@ -218,7 +229,15 @@ fn replay_equals_the_calls() {
                 3 => bench.call(Transfer::DataRead),
                 4 => panic!("on a serial panel only"),
                 5 => bench.select_low(),
-                _ => bench.reset(value == 1),
+                6 => bench.reset(value == 1),
+                _ => {
+                    bench.pass(value);
+                    Outcome {
+                        number: 0,
+                        reply: 0,
+                        count: 0,
+                    }
+                }
             };
             assert_eq!(answer.kind, kind);
             assert_eq!((answer.reply, answer.count), (outcome.reply, outcome.count));
@@ -228,5 +247,6 @@ fn replay_equals_the_calls() {
         if replayed.number == 0 {
             assert_eq!(replayed.place, list.len());
         }
+        assert_eq!(panel.time, time);
     }
 }

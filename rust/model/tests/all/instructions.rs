@@ -4,7 +4,7 @@ use crate::bench::{Bench, Dice};
 use model::{Half, Panel, Target};
 
 /// Ignored as reading 1 lists them.
-fn is_ignored(panel: &Panel, byte: u8) -> bool {
+pub fn is_ignored(panel: &Panel, byte: u8) -> bool {
     match (byte, panel.re) {
         (0x00, _) => true,
         (0x08..=0x1F, true) => true,

@@ -14,3 +14,5 @@ mod refusals;
 mod repaint;
 mod second_picture;
 mod serial;
+mod time;
+mod time_random;

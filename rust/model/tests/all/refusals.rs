@@ -1,9 +1,23 @@
 //! Refusal numbers: when, only then, in order, with nothing changed.
 
 use crate::bench::Dice;
-use model::{printed, replay, send, Outcome, Panel, Reader, Record, Transfer};
+use model::{printed, replay, send, Link, Outcome, Panel, Reader, Record, Transfer};
 
-/// Every call that takes frame and fonts, on both links.
+/// A panel of each link, without time and busy.
+fn panels(dice: &mut Dice) -> [Panel; 4] {
+    [
+        dice.panel(true),
+        dice.panel(false),
+        dice.busy(true),
+        dice.busy(false),
+    ]
+}
+
+fn is_parallel(panel: &Panel) -> bool {
+    matches!(panel.link, Link::Parallel(_))
+}
+
+/// Every call that takes frame and fonts, on both links, but reset.
 fn all_calls(panel: &mut Panel, frame: &mut [u8], half: &[u8], full: &[u8]) -> Vec<(u8, Outcome)> {
     let mut out = Vec::new();
     let number = panel.draw(frame, half, full, true);
@@ -25,14 +39,14 @@ fn all_calls(panel: &mut Panel, frame: &mut [u8], half: &[u8], full: &[u8]) -> V
     }
     out.push((2, panel.bit(true, frame, half, full, true)));
     out.push((2, panel.select_low(frame, half, full, true)));
+    out.push((3, panel.pass(9, frame, half, full, true)));
     out
 }
 
 fn assert_refused(frame: usize, half: usize, full: usize, number: u8) {
     let (half, full) = (vec![1; half], vec![2; full]);
     let mut dice = Dice::new(3);
-    for is_parallel in [true, false] {
-        let before = dice.panel(is_parallel);
+    for before in panels(&mut dice) {
         let mut panel = before.clone();
         let mut lent = vec![0x77; frame];
         for (_, outcome) in all_calls(&mut panel, &mut lent, &half, &full) {
@@ -63,20 +77,25 @@ fn assert_refused(frame: usize, half: usize, full: usize, number: u8) {
 fn assert_accepted(full: usize) {
     let full = vec![2; full];
     let mut dice = Dice::new(4);
-    for is_parallel in [true, false] {
+    for before in panels(&mut dice) {
         for pin in [true, false] {
-            let mut panel = dice.panel(is_parallel);
+            let mut panel = before.clone();
             let mut frame = vec![0x77; 1_024];
             for (link, outcome) in all_calls(&mut panel, &mut frame, &[1; 2_048], &full) {
-                let other = (link == 1 && !is_parallel) || (link == 2 && is_parallel);
-                assert_eq!(outcome.number, if other { 5 } else { 0 });
+                let expected = match link {
+                    1 if !is_parallel(&before) => 5,
+                    2 if is_parallel(&before) => 5,
+                    3 if !before.time => 8,
+                    _ => 0,
+                };
+                assert_eq!(outcome.number, expected);
             }
             let outcome = panel.reset(pin, &mut frame, &[1; 2_048], &full, true);
             assert_eq!(
                 (outcome.number, outcome.reply, outcome.count),
                 (0, 0, 1_024)
             );
-            assert_eq!(panel, Panel::fresh(pin));
+            assert_eq!(panel, Panel::made(pin, before.time));
             assert_eq!(frame, vec![0; 1_024]);
         }
     }
@@ -137,8 +156,7 @@ fn number_4_send_buffer() {
 fn number_5_other_link() {
     let mut dice = Dice::new(5);
     for _ in 0..200 {
-        for is_parallel in [true, false] {
-            let before = dice.panel(is_parallel);
+        for before in panels(&mut dice) {
             let mut panel = before.clone();
             let mut frame = vec![0x77; 1_024];
             let mut refused = |transfer: Option<Transfer>, bit: Option<bool>| {
@@ -150,7 +168,7 @@ fn number_5_other_link() {
                 };
                 assert_eq!((outcome.number, outcome.reply, outcome.count), (5, 0, 0));
             };
-            if is_parallel {
+            if is_parallel(&before) {
                 refused(None, Some(dice.flag()));
                 refused(None, None);
             } else {
@@ -192,16 +210,23 @@ fn numbers_8_and_9_kind_and_value() {
     for kind in 0..=255 {
         for value in 0..=255 {
             let bytes = [0xA5, 0x5A, kind, value, 0x77];
-            let mut reader = Reader::new(&bytes);
-            let expected = match (kind, value) {
-                (7..=255, _) => Err(8),
-                (2 | 3 | 5, 1..=255) | (6, 2..=255) => Err(9),
-                _ => Ok(Record { kind, value }),
-            };
-            assert_eq!(reader.read(), expected);
-            // A record is passed over, a refused one is not.
-            let rest = if expected.is_ok() { 4 } else { 0 };
-            assert_eq!(reader.rest(), &bytes[rest..]);
+            for time in [false, true] {
+                let mut reader = Reader::made(&bytes, time);
+                let expected = match (kind, value) {
+                    (7, _) if !time => Err(8),
+                    (8..=255, _) => Err(8),
+                    (2 | 3 | 5, 1..=255) | (6, 2..=255) => Err(9),
+                    _ => Ok(Record { kind, value }),
+                };
+                assert_eq!(reader.read(), expected);
+                // A record is passed over, a refused one is not.
+                let rest = if expected.is_ok() { 4 } else { 0 };
+                assert_eq!(reader.rest(), &bytes[rest..]);
+            }
+            // A new reader is one for a panel without time.
+            let (mut new, mut made) = (Reader::new(&bytes), Reader::made(&bytes, false));
+            assert_eq!(new, made);
+            assert_eq!(new.read(), made.read());
         }
     }
 }
