@@ -13,20 +13,21 @@ pub data Kind : Type 0 where
   eightBits : Kind
   chipSelectLow : Kind
   reset : Kind
+  timePasses : Kind
 
 -- in the order of their numbers, from 0 on
 abbrev pub kinds : List Kind
-kinds = instructionWrite ∷ dataWrite ∷ statusRead ∷ dataRead ∷ eightBits ∷ chipSelectLow ∷ reset ∷ []
+kinds = instructionWrite ∷ dataWrite ∷ statusRead ∷ dataRead ∷ eightBits ∷ chipSelectLow ∷ reset ∷ timePasses ∷ []
 
--- refusal 8: a kind above 6
+-- refusal 8: a kind above 7 (7 itself is turned down after this where the panel has no time)
 abbrev pub known : ℕ → Bool
-known number = leb number 6
+known number = leb number 7
 
 -- the kind with a number (one that is not known is refused before)
 unfoldable pub kindOf : ℕ → Kind
-kindOf number = getD kinds number reset
+kindOf number = getD kinds number timePasses
 
--- refusal 9: kinds 2, 3, 5 need value 0; 6 needs 0 or 1
+-- refusal 9: kinds 2, 3, 5 need value 0; 6 needs 0 or 1 (7 takes any: value times 8 microseconds passed)
 abbrev pub allowed : Kind → ℕ → Bool
 allowed instructionWrite value = true
 allowed dataWrite value = true
@@ -35,6 +36,7 @@ allowed dataRead value = eqb value 0
 allowed eightBits value = true
 allowed chipSelectLow value = eqb value 0
 allowed reset value = leb value 1
+allowed timePasses value = true
 
 -- whether a reply is shown for it
 abbrev pub reads : Kind → Bool
@@ -45,3 +47,4 @@ reads dataRead = true
 reads eightBits = false
 reads chipSelectLow = false
 reads reset = false
+reads timePasses = false
