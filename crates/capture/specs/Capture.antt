@@ -31,7 +31,7 @@ readAt c at = readFirst (drop at c)
 abbrev pub stepAt : List ℕ → ℕ → Step
 stepAt c at = record { answer = readAt c at; next = at + passed (readAt c at) }
 
--- what an answer is to a panel with or without time: without time, kind 7 is still refused with 8
+-- request K1: what an answer is to a panel with or without time; without time kind 7 is still refused with 8
 abbrev pub takenWith : Bool → Answer → Answer
 takenWith time (Record kind value) = if not time && eqb kind 7 then Refused 8 else Record kind value
 takenWith time (Refused n) = Refused n

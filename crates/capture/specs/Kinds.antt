@@ -1,4 +1,4 @@
--- Document 01, "Captures": the kinds of records. What holds of a kind is a table with a clause for each.
+-- Document 01, "Captures", and request K1: the kinds of records. What holds of a kind is a table with a clause for each.
 use Prim.Native.Nat.{ℕ}
 use mathlib.Core.Bool.{Bool, true, false}
 use mathlib.Core.List.{List, [], _∷_}
@@ -15,11 +15,11 @@ pub data Kind : Type 0 where
   reset : Kind
   timePasses : Kind
 
--- in the order of their numbers, from 0 on
+-- in the order of their numbers, from 0 on; the last says that value times 8 microseconds passed
 abbrev pub kinds : List Kind
 kinds = instructionWrite ∷ dataWrite ∷ statusRead ∷ dataRead ∷ eightBits ∷ chipSelectLow ∷ reset ∷ timePasses ∷ []
 
--- refusal 8: a kind above 7 (7 itself is turned down after this where the panel has no time)
+-- refusal 8: a kind above 7 (7 itself is turned down behind this where the panel has no time)
 abbrev pub known : ℕ → Bool
 known number = leb number 7
 
@@ -27,7 +27,7 @@ known number = leb number 7
 unfoldable pub kindOf : ℕ → Kind
 kindOf number = getD kinds number timePasses
 
--- refusal 9: kinds 2, 3, 5 need value 0; 6 needs 0 or 1 (7 takes any: value times 8 microseconds passed)
+-- refusal 9: kinds 2, 3, 5 need value 0; 6 needs 0 or 1
 abbrev pub allowed : Kind → ℕ → Bool
 allowed instructionWrite value = true
 allowed dataWrite value = true

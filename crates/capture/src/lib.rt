@@ -25,7 +25,7 @@ impl Answer {
         }
     }
 
-    // What it is to a panel with or without time: without, kind 7 is none.
+    // What it is to a panel with or without time: without, a record of kind 7 is refused.
     pub fn taken_with(self, time: bool) -> Answer
         ensures { λ r. ⌜ r ≡ takenWith time self ⌝ }
     {
