@@ -2,7 +2,7 @@
 use Prim.Native.Nat.{ℕ, zero, suc, _<_}
 use mathlib.Core.Path.{_≡_, refl}
 use native.Mathlib.Omega.{arith}
-use Rattle.capture.specs.Kinds.{Kind, instructionWrite, dataWrite, statusRead, dataRead, eightBits, chipSelectLow, reset, kindOf}
+use Rattle.capture.specs.Kinds.{Kind, instructionWrite, dataWrite, statusRead, dataRead, eightBits, chipSelectLow, reset, timePasses, kindOf}
 
 -- what holds of each kind under its own number holds of the kind that a number has
 pub by-kind :
@@ -13,22 +13,25 @@ pub by-kind :
     → (n ≡ 3 → P dataRead)
     → (n ≡ 4 → P eightBits)
     → (n ≡ 5 → P chipSelectLow)
-    → (5 < n → P reset)
+    → (n ≡ 6 → P reset)
+    → (6 < n → P timePasses)
     → P (kindOf n)
 unfolding kindOf
-by-kind P zero k0 k1 k2 k3 k4 k5 k6 = k0 refl
-by-kind P (suc zero) k0 k1 k2 k3 k4 k5 k6 = k1 refl
-by-kind P (suc (suc zero)) k0 k1 k2 k3 k4 k5 k6 = k2 refl
-by-kind P (suc (suc (suc zero))) k0 k1 k2 k3 k4 k5 k6 = k3 refl
-by-kind P (suc (suc (suc (suc zero)))) k0 k1 k2 k3 k4 k5 k6 = k4 refl
-by-kind P (suc (suc (suc (suc (suc zero))))) k0 k1 k2 k3 k4 k5 k6 = k5 refl
-by-kind P (suc (suc (suc (suc (suc (suc zero)))))) k0 k1 k2 k3 k4 k5 k6 = k6 (omega arith)
-by-kind P (suc (suc (suc (suc (suc (suc (suc n))))))) k0 k1 k2 k3 k4 k5 k6 = k6 (omega arith)
+by-kind P zero k0 k1 k2 k3 k4 k5 k6 k7 = k0 refl
+by-kind P (suc zero) k0 k1 k2 k3 k4 k5 k6 k7 = k1 refl
+by-kind P (suc (suc zero)) k0 k1 k2 k3 k4 k5 k6 k7 = k2 refl
+by-kind P (suc (suc (suc zero))) k0 k1 k2 k3 k4 k5 k6 k7 = k3 refl
+by-kind P (suc (suc (suc (suc zero)))) k0 k1 k2 k3 k4 k5 k6 k7 = k4 refl
+by-kind P (suc (suc (suc (suc (suc zero))))) k0 k1 k2 k3 k4 k5 k6 k7 = k5 refl
+by-kind P (suc (suc (suc (suc (suc (suc zero)))))) k0 k1 k2 k3 k4 k5 k6 k7 = k6 refl
+by-kind P (suc (suc (suc (suc (suc (suc (suc zero))))))) k0 k1 k2 k3 k4 k5 k6 k7 = k7 (omega arith)
+by-kind P (suc (suc (suc (suc (suc (suc (suc (suc n)))))))) k0 k1 k2 k3 k4 k5 k6 k7 = k7 (omega arith)
 
 -- the last kind
-pub above-five : (n : ℕ) → 5 < n → kindOf n ≡ reset
-above-five n h =
-    by-kind (λ (k : Kind). k ≡ reset) n (λ e. absurd (omega arith)) (λ e. absurd (omega arith)) (λ e. absurd (omega arith)) (λ e. absurd (omega arith))
+pub above-six : (n : ℕ) → 6 < n → kindOf n ≡ timePasses
+above-six n h =
+    by-kind (λ (k : Kind). k ≡ timePasses) n (λ e. absurd (omega arith)) (λ e. absurd (omega arith)) (λ e. absurd (omega arith)) (λ e. absurd (omega arith))
+    (λ e. absurd (omega arith))
     (λ e. absurd (omega arith))
     (λ e. absurd (omega arith))
     (λ e. refl)

@@ -1,5 +1,6 @@
 pub mod ByKind
 pub mod Answers
+pub mod Taken
 pub mod Contents
 mod Held
 mod Called

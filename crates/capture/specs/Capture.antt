@@ -1,8 +1,11 @@
 -- Document 01, "Captures": the records of a capture, one after another, and what each leaves of it.
 use Prim.Native.Nat.{ℕ, _+_, min}
+use mathlib.Core.Bool.{Bool, not, _&&_}
 use mathlib.Core.List.{List, [], _∷_}
+use lib.Dec.{eqb}
 use lib.ListN.{length, drop}
 use denote.Ref.{RefT, now}
+use Rattle.base.specs.Choice.{if_then_else_}
 use Rattle.capture.specs.declared.Answer.{Answer}
 use Rattle.capture.specs.declared.Answer.the-variants.{Record, Refused, End}
 use Rattle.capture.specs.declared.Step.{Step}
@@ -28,12 +31,18 @@ readAt c at = readFirst (drop at c)
 abbrev pub stepAt : List ℕ → ℕ → Step
 stepAt c at = record { answer = readAt c at; next = at + passed (readAt c at) }
 
+-- request K1: what an answer is to a panel with or without time; without time kind 7 is still refused with 8
+abbrev pub takenWith : Bool → Answer → Answer
+takenWith time (Record kind value) = if not time && eqb kind 7 then Refused 8 else Record kind value
+takenWith time (Refused n) = Refused n
+takenWith time End = End
+
 -- a record's two numbers
 pub record Recorded : Type 0 where
   pub kind : ℕ
   pub value : ℕ
 
--- a capture read through: its records, and what stands where reading stops
+-- a capture read through by a panel with or without time: its records, and what stands where reading stops
 pub record Contents : Type 0 where
   pub records : List Recorded
   pub stop : Answer
@@ -48,9 +57,9 @@ readOn (Refused n) on = noMore (Refused n)
 readOn End on = noMore End
 
 -- by four bytes at a time; fewer are no record
-unfoldable pub contents : List ℕ → Contents
-contents [] = noMore (readFirst [])
-contents (a ∷ []) = noMore (readFirst (a ∷ []))
-contents (a ∷ b ∷ []) = noMore (readFirst (a ∷ b ∷ []))
-contents (a ∷ b ∷ d ∷ []) = noMore (readFirst (a ∷ b ∷ d ∷ []))
-contents (a ∷ b ∷ d ∷ e ∷ c) = readOn (readFirst (a ∷ b ∷ d ∷ e ∷ c)) (contents c)
+unfoldable pub contents : Bool → List ℕ → Contents
+contents time [] = noMore (readFirst [])
+contents time (a ∷ []) = noMore (readFirst (a ∷ []))
+contents time (a ∷ b ∷ []) = noMore (readFirst (a ∷ b ∷ []))
+contents time (a ∷ b ∷ d ∷ []) = noMore (readFirst (a ∷ b ∷ d ∷ []))
+contents time (a ∷ b ∷ d ∷ e ∷ c) = readOn (takenWith time (readFirst (a ∷ b ∷ d ∷ e ∷ c))) (contents time c)

@@ -1,4 +1,4 @@
--- Document 01, "Captures": the kinds of records. What holds of a kind is a table with a clause for each.
+-- Document 01, "Captures", and request K1: the kinds of records. What holds of a kind is a table with a clause for each.
 use Prim.Native.Nat.{ℕ}
 use mathlib.Core.Bool.{Bool, true, false}
 use mathlib.Core.List.{List, [], _∷_}
@@ -13,18 +13,19 @@ pub data Kind : Type 0 where
   eightBits : Kind
   chipSelectLow : Kind
   reset : Kind
+  timePasses : Kind
 
--- in the order of their numbers, from 0 on
+-- in the order of their numbers, from 0 on; the last says that value times 8 microseconds passed
 abbrev pub kinds : List Kind
-kinds = instructionWrite ∷ dataWrite ∷ statusRead ∷ dataRead ∷ eightBits ∷ chipSelectLow ∷ reset ∷ []
+kinds = instructionWrite ∷ dataWrite ∷ statusRead ∷ dataRead ∷ eightBits ∷ chipSelectLow ∷ reset ∷ timePasses ∷ []
 
--- refusal 8: a kind above 6
+-- refusal 8: a kind above 7 (7 itself is turned down behind this where the panel has no time)
 abbrev pub known : ℕ → Bool
-known number = leb number 6
+known number = leb number 7
 
 -- the kind with a number (one that is not known is refused before)
 unfoldable pub kindOf : ℕ → Kind
-kindOf number = getD kinds number reset
+kindOf number = getD kinds number timePasses
 
 -- refusal 9: kinds 2, 3, 5 need value 0; 6 needs 0 or 1
 abbrev pub allowed : Kind → ℕ → Bool
@@ -35,6 +36,7 @@ allowed dataRead value = eqb value 0
 allowed eightBits value = true
 allowed chipSelectLow value = eqb value 0
 allowed reset value = leb value 1
+allowed timePasses value = true
 
 -- whether a reply is shown for it
 abbrev pub reads : Kind → Bool
@@ -45,3 +47,4 @@ reads dataRead = true
 reads eightBits = false
 reads chipSelectLow = false
 reads reset = false
+reads timePasses = false

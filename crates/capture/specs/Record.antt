@@ -20,7 +20,7 @@ abbrev pub valueByte : List ℕ → ℕ
 valueByte c = getD c 3 0
 
 -- what stands at the beginning of a capture: where none is left the end, else the refusals in their order (6: 1 to 3 bytes remain; 7: mark
--- wrong; 8: kind above 6; 9: value not allowed), else a record
+-- wrong; 8: kind above 7; 9: value not allowed), else a record. Kind 7 is turned down behind it where the panel has no time
 unfoldable pub readFirst : List ℕ → Answer
 readFirst c =
     if eqb (length c) 0 then End

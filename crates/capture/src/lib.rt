@@ -3,7 +3,7 @@ ghost use mathlib.Core.Path.{_≡_};
 ghost use Rattle.capture.specs.Kinds.{known, kindOf, allowed};
 ghost use Rattle.capture.specs.Record.{marked, readFirst, number};
 ghost use Rattle.capture.specs.Part.{lent};
-ghost use Rattle.capture.specs.Capture.{passed, partFrom, stepAt};
+ghost use Rattle.capture.specs.Capture.{passed, takenWith, partFrom, stepAt};
 ghost use Rattle.capture.specs.Reader.{over, readerStep};
 
 // What stands in a capture: a record with its two numbers, or why there is none: a refusal, by its number, or the capture's end.
@@ -23,6 +23,19 @@ impl Answer {
             Answer::Refused(number) => number,
             Answer::End => 0,
         }
+    }
+
+    // What it is to a panel with or without time: without, a record of kind 7 is refused.
+    pub fn taken_with(self, time: bool) -> Answer
+        ensures { λ r. ⌜ r ≡ takenWith time self ⌝ }
+    {
+        let Answer::Record { kind, value: _ } = self else {
+            return self;
+        };
+        if !time && kind == 7 {
+            return Answer::Refused(8);
+        }
+        self
     }
 
     // How many bytes of the capture it takes to move on.
@@ -48,7 +61,7 @@ fn marked(first: u8, second: u8) -> bool
 fn known(kind: u8) -> bool
     ensures { λ r. ⌜ r ≡ known kind ⌝ }
 {
-    kind <= 6
+    kind <= 7
 }
 
 // Which values a kind takes.
@@ -56,9 +69,9 @@ fn allowed(kind: u8, value: u8) -> bool
     ensures { λ r. ⌜ r ≡ allowed (kindOf kind) value ⌝ }
 {
     match kind {
-        0 | 1 | 4 => true,
         2 | 3 | 5 => value == 0,
-        _ => value <= 1,
+        6 => value <= 1,
+        _ => true,
     }
 }
 

@@ -14,21 +14,22 @@ module _ (kind value : ℕ) where
   abbrev Says : Bool → Kind → Type 0
   Says b k = b ≡ allowed k value
 
-  writes : kind < 2 → Says true (kindOf kind)
-  writes h =
-      by-kind (Says true) kind (λ e. refl) (λ e. refl) (λ e. absurd (omega arith)) (λ e. absurd (omega arith)) (λ e. refl) (λ e. absurd (omega arith))
-      (λ e. absurd (omega arith))
-
   two-or-three : 2 ≤ kind → kind < 4 → Says (eqb value 0) (kindOf kind)
   two-or-three l h =
       by-kind (Says (eqb value 0)) kind (λ e. absurd (omega arith)) (λ e. absurd (omega arith)) (λ e. refl) (λ e. refl) (λ e. absurd (omega arith)) (λ e. refl)
       (λ e. absurd (omega arith))
+      (λ e. absurd (omega arith))
 
-  six : 5 < kind → Says (leb value 1) (kindOf kind)
-  six l =
-      by-kind (Says (leb value 1)) kind (λ e. absurd (omega arith)) (λ e. absurd (omega arith)) (λ e. absurd (omega arith)) (λ e. absurd (omega arith))
+  below-two : kind < 2 → Says true (kindOf kind)
+  below-two h =
+      by-kind (Says true) kind (λ e. refl) (λ e. refl) (λ e. absurd (omega arith)) (λ e. absurd (omega arith)) (λ e. refl) (λ e. absurd (omega arith))
       (λ e. absurd (omega arith))
-      (λ e. absurd (omega arith))
+      (λ e. refl)
+
+  from-four : 4 ≤ kind → (kind ≡ 5 → ⊥) → (kind ≡ 6 → ⊥) → Says true (kindOf kind)
+  from-four l n5 n6 =
+      by-kind (Says true) kind (λ e. refl) (λ e. refl) (λ e. absurd (omega arith)) (λ e. absurd (omega arith)) (λ e. refl) (λ e. absurd (n5 e))
+      (λ e. absurd (n6 e))
       (λ e. refl)
 
 pub allowed-spec : {M : Type 1} → statement M
@@ -36,7 +37,7 @@ unfolding kindOf
 allowed-spec =
     tie.close
     (tie.spec
-    (λ c. six (c .before .before .before .args .kind) _ (omega arith))
-    (λ c. ⊎-elim (λ h. rw (h .keys2)) (λ h. two-or-three _ _ (h .1 .left) (h .2 .taken)) (c .match .came))
-    (λ c. rw (c .match .keys1))
-    (λ c. writes _ _ (c .if1 .taken)))
+    (λ c. rw (c .match .keys2))
+    (λ c. below-two _ _ (c .if1 .taken))
+    (λ c. from-four _ _ (c .if2 .left) (c .before .before .match .rest .0 .1) (c .before .before .match .rest .1))
+    (λ c. ⊎-elim (λ h. rw (h .keys1)) (λ h. two-or-three _ _ (h .1 .left) (h .2 .taken)) (c .match .came)))

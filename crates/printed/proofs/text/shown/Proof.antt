@@ -18,10 +18,11 @@ module _ (kind character : ℕ) where
       by-kind (Says character) kind (λ e. absurd (omega arith)) (λ e. absurd (omega arith)) (λ e. refl) (λ e. refl) (λ e. absurd (omega arith))
       (λ e. absurd (omega arith))
       (λ e. absurd (omega arith))
+      (λ e. absurd (omega arith))
 
   others : (kind ≡ 2 → ⊥) → (kind ≡ 3 → ⊥) → Says 0x2D (kindOf kind)
   others n2 n3 =
-      by-kind (Says 0x2D) kind (λ e. refl) (λ e. refl) (λ e. absurd (n2 e)) (λ e. absurd (n3 e)) (λ e. refl) (λ e. refl) (λ e. refl)
+      by-kind (Says 0x2D) kind (λ e. refl) (λ e. refl) (λ e. absurd (n2 e)) (λ e. absurd (n3 e)) (λ e. refl) (λ e. refl) (λ e. refl) (λ e. refl)
 
 pub shown-spec : {M : Type 1} → statement M
 shown-spec =
