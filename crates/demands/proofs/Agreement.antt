@@ -1,11 +1,12 @@
 -- The panel is a controller at the end of its link: a call is a step of the links' connector. So the links' theorems hold of its calls.
 use Prim.Native.Nat.{ℕ, zero, suc, _-_}
-use mathlib.Core.Bool.{true}
+use mathlib.Core.Bool.{true, false}
 use mathlib.Core.List.{List, [], _∷_, _++_, map}
 use mathlib.Core.Path.{_≡_, refl, sym, ap, _∙_, subst}
 use native.Mathlib.Omega.{arith}
 use lib.ListN.{length, replicate}
 use Rattle.base.proofs.Painting.{painted-length, painted-none}
+use Rattle.controller.specs.declared.Control.{Control}
 use Rattle.controller.specs.declared.View.{View}
 use Rattle.controller.specs.declared.Region.{Region}
 use Rattle.controller.specs.declared.Region.the-variants as region
@@ -27,8 +28,9 @@ use Rattle.picture.specs.Picture.{Fonts, Seen, lookOf, wide}
 use Rattle.repaint.specs.Repaint.{named, repainted, countNamed}
 use Rattle.repaint.proofs.Counts.{count-nothing}
 use Rattle.calls.specs.State.{state}
-use Rattle.calls.specs.Calls.{Called, unlessOther, takenOn, Fits, called, Stands, afterCalls}
-use Rattle.calls.proofs.Kept.{admitted}
+use Rattle.deeds.proofs.Untimed.{performed-timed}
+use Rattle.calls.specs.Calls.{Called, unlessOther, takenOn, timeless, Fits, called, Stands, afterCalls}
+use Rattle.demands.proofs.Timely.{admitted-timely, AllTimely, all-same, wires-timely, alike-timely}
 use Rattle.demands.specs.Wires.{answers, numbersOf, countsOf, Board, boardOf, countOf, board, given, itemCounts, callsFor, atLast, byItem, sum, onLink, standing, withDl}
 use Rattle.demands.specs.Agreement.{DoesBy, ReceivedAsGiven, SentIsReceived, WritesAreReceived, LinksAgree}
 use Rattle.demands.proofs.ButDl.{boardButDl, board-respects}
@@ -72,27 +74,27 @@ goes-on d elsewhere x is = absurd (let z : _≡_ {A = ℕ} 0 1 = cc in omega ari
 goes-on d (comes y) x is = (y, (refl, cc))
 
 module _ (e : Seen) where
-  pub call-is-connected : (b : Board) (l : Link) (event : Event) → Fits e (b .frame) →
+  pub call-is-connected : (b : Board) (l : Link) (event : Event) → Fits e (b .frame) → timeless (b .control) event ≡ false →
       DoesBy (called e (onLink b l) (b .frame) event) (onLink b l) (b .frame) (eventAt (board e) (record { state = b; link = l }) event)
   unfolding eventAt
-  call-is-connected b l event h = rw (admitted e (onLink b l) (b .frame) event h) (by (takenOn (onLink b l) event))
+  call-is-connected b l event h w = rw (admitted-timely e (onLink b l) (b .frame) event h w) (by (takenOn (onLink b l) event))
     where
       by : (t : Taken) → DoesBy (unlessOther e (onLink b l) (b .frame) t) (onLink b l) (b .frame) (takenAt (board e) b t)
       by OtherLink = refl
       by (Carries c) = record { state = refl; frame = refl; number = refl; reply = refl }
 
   -- what the connector reaches, the calls reach
-  runs-tell : (events : List Event) (b : Board) (l : Link) (x : CameAll Board) → Fits e (b .frame) →
+  runs-tell : (events : List Event) (b : Board) (l : Link) (x : CameAll Board) → Fits e (b .frame) → AllTimely (b .control) events →
       runs (board e) (record { state = b; link = l }) events ≡ comes x → Tells e b l events x
-  unfolding runs eventAt afterCalls answers deedCounts
-  runs-tell [] b l x h is =
+  unfolding runs eventAt afterCalls answers deedCounts AllTimely
+  runs-tell [] b l x h w is =
       let same : record { deeds = []; at = record { state = b; link = l } } ≡ x = cc in
       subst (Tells e b l []) same (record { stands = refl; accepted = refl; counted = refl })
-  runs-tell (event ∷ events) b l x h is =
-      by (λ to at. runs-tell events to at) (takenOn (onLink b l) event) (admitted e (onLink b l) (b .frame) event h) is
+  runs-tell (event ∷ events) b l x h w is =
+      by (λ to at. runs-tell events to at) (takenOn (onLink b l) event) (admitted-timely e (onLink b l) (b .frame) event h (w .0)) is
     where
       by :
-          ((to : Board) (at : Link) (y : CameAll Board) → Fits e (to .frame) → runs (board e) (record { state = to; link = at }) events ≡ comes y →
+          ((to : Board) (at : Link) (y : CameAll Board) → Fits e (to .frame) → AllTimely (to .control) events → runs (board e) (record { state = to; link = at }) events ≡ comes y →
           Tells e to at events y)
           → (t : Taken)
           → called e (onLink b l) (b .frame) event ≡ unlessOther e (onLink b l) (b .frame) t
@@ -102,7 +104,8 @@ module _ (e : Seen) where
       by on (Carries c) k is =
           let to = carriedAt (board e) b c .at in
           let more = goes-on (c .deed) (runs (board e) to events) x is in
-          let rest = on (to .state) (to .link) (more .0) (repainted-fits e _ _ _ (b .frame) h) (more .1 .0) in
+          let rest = on (to .state) (to .link) (more .0) (repainted-fits e _ _ _ (b .frame) h)
+          (all-same (b .control) (to .state .control) events (sym (performed-timed (b .memories) (b .control) (c .deed))) (w .1)) (more .1 .0) in
           subst (Tells e b l (event ∷ events)) (more .1 .1)
           (record {
             stands = ap (λ (k : Called). afterCalls e (k .state) (k .frame) events) k ∙ rest .stands;
@@ -151,20 +154,21 @@ idle-rests (halves low) = refl
 idle-rests serial = refl
 
 pub writes-are-received : WritesAreReceived
-writes-are-received e way s frame list h l d =
+writes-are-received e way s frame list h l w d =
     let from = boardOf s frame in
-    let told = runs-tell e (wires way list) from (resting way Lost) _ h (items-act (board e) (board-idles e) way from Lost list d) in
+    let told = runs-tell e (wires way list) from (resting way Lost) _ h (wires-timely (s .control) way list w) (items-act (board e) (board-idles e) way from Lost list d) in
     let sums = ap (λ (ns : List ℕ). map sum (byItem way list ns)) (told .counted ∙ wire-counts e way list from) ∙ sums-back e way list from in
     subst (λ (x : Link). ReceivedAsGiven e way (state (s .memories) (s .control) x) frame list) (sym (l ∙ idle-rests way))
     (record { stands = told .stands; accepted = told .accepted; counts = told .counted ∙ wire-counts e way list from; sums = sums })
 
 pub sent-is-received : SentIsReceived
-sent-is-received e s frame list h l = writes-are-received e serial s frame list h l tt
+sent-is-received e s frame list h l w = writes-are-received e serial s frame list h l w tt
 
 pub links-agree : LinksAgree
-links-agree e way other s t frame list others h l k same alike d f =
-    let one = writes-are-received e way s frame list h l d in
-    let two = writes-are-received e other t frame others h k f in
+links-agree e way other s t frame list others h l k same alike w d f =
+    let timed = ap (λ (c : Control). c .time .timed) (same .controls) in
+    let one = writes-are-received e way s frame list h l w d in
+    let two = writes-are-received e other t frame others h k (alike-timely (s .control) (t .control) list others timed alike w) f in
     let start : boardButDl (boardOf s frame) ≡ boardButDl (boardOf t frame) = cc (same .memories, same .controls) in
     let end : boardButDl (given e s frame list) ≡ boardButDl (given e t frame others) =
     lists-agree (board e) (λ a b. boardButDl a ≡ boardButDl b) (board-respects e) (boardOf s frame) (boardOf t frame) list others start alike in

@@ -20,7 +20,8 @@ use Rattle.deeds.specs.declared.Done.{Done}
 use Rattle.controller.specs.Memories.{Memories}
 use Rattle.controller.specs.Data.{completes, shifts, movedOn}
 use Rattle.controller.specs.Named.{covers, textNames, writeByTarget, writeNames, readNames, bothCells}
-use Rattle.deeds.specs.Transfers.{Acted, written, readOut, carriedOut, performed}
+use Rattle.deeds.specs.Time.{lost}
+use Rattle.deeds.specs.Transfers.{Acted, written, readOut, carriedOut, onTime, performed}
 use Rattle.events.specs.declared.Event.{Event}
 use Rattle.events.specs.declared.Transfer.{Transfer}
 use Rattle.events.specs.declared.Transfer.the-variants.{Instruct, Write, Status, Read}
@@ -32,7 +33,7 @@ use Rattle.picture.specs.Refusals.{refusalOf}
 use Rattle.repaint.specs.Repaint.{named, countNamed}
 use Rattle.repaint.proofs.Counts.{count-cells, count-glyph, count-graphic, count-nothing}
 use Rattle.calls.specs.State.{State}
-use Rattle.calls.specs.Calls.{Called, unlessOther, takenOn, reaching, called}
+use Rattle.calls.specs.Calls.{Called, unlessOther, takenOn, reaching, timeless, called}
 use Rattle.demands.specs.Wires.{countOf, isData}
 use Rattle.demands.specs.Demand3.{AtMost64, GlyphAtMost32, GraphicAtMost1}
 
@@ -96,6 +97,11 @@ data-count m c (Write byte) d s = le-trans (written-count m c byte s) (bound-64 
 data-count m c Status d s = absurd (true≢false (sym d))
 data-count m c Read d s = read-count m c s
 
+-- a lost transfer names none
+onTime-count : (m : Memories) (c : Control) (t : Transfer) (n : ℕ) → countOf (carriedOut m c t) ≤ n → countOf (onTime m c t) ≤ n
+unfolding onTime
+onTime-count m c t n h = either (λ (a : Acted). countOf a ≤ n) (lost c t) (nothing-count (c .view) (m .text) n) h
+
 -- a bound on what reaches the controller is a bound on the call, whatever link it comes over
 module _ (e : Seen) (s : State) (frame : List ℕ) (event : Event) (n : ℕ) where
   reached-count : (t : Taken) → countOf (performed (s .memories) (s .control) (reaching t)) ≤ n → unlessOther e s frame t .count ≤ n
@@ -106,12 +112,12 @@ module _ (e : Seen) (s : State) (frame : List ℕ) (event : Event) (n : ℕ) whe
   unfolding called
   bounded-count h =
       either (λ (x : Called). x .count ≤ n) (eqb (refusalOf (length frame) (length (e .fonts .half)) (length (e .fonts .full))) 0)
-      (reached-count (takenOn s event) h) (omega arith)
+      (either (λ (x : Called). x .count ≤ n) (timeless (s .control) event) (omega arith) (reached-count (takenOn s event) h)) (omega arith)
 
 -- with S = 0 a call that carries out a data transfer names at most 64
 pub at-most-64 : AtMost64
 unfolding performed
-at-most-64 e s frame event t k d z = bounded-count e s frame event 64 (rw k (data-count (s .memories) (s .control) t d z))
+at-most-64 e s frame event t k d z = bounded-count e s frame event 64 (rw k (onTime-count (s .memories) (s .control) t 64 (data-count (s .memories) (s .control) t d z)))
 
 -- glyph and graphic writes never shift the display, so S does not matter
 glyph-count : (m : Memories) (c : Control) (b : ℕ) → c .place .target ≡ Glyph → countOf (written m c b) ≤ 32
@@ -124,8 +130,8 @@ graphic-count m c b h = rw h (count-graphic _ _ _ _)
 
 pub glyph-at-most-32 : GlyphAtMost32
 unfolding performed carriedOut
-glyph-at-most-32 e s frame call byte k t = bounded-count e s frame call 32 (rw k (glyph-count (s .memories) (s .control) byte t))
+glyph-at-most-32 e s frame call byte k t = bounded-count e s frame call 32 (rw k (onTime-count (s .memories) (s .control) (Write byte) 32 (glyph-count (s .memories) (s .control) byte t)))
 
 pub graphic-at-most-1 : GraphicAtMost1
 unfolding performed carriedOut
-graphic-at-most-1 e s frame call byte k t = bounded-count e s frame call 1 (rw k (graphic-count (s .memories) (s .control) byte t))
+graphic-at-most-1 e s frame call byte k t = bounded-count e s frame call 1 (rw k (onTime-count (s .memories) (s .control) (Write byte) 1 (graphic-count (s .memories) (s .control) byte t)))

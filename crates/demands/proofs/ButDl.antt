@@ -19,11 +19,14 @@ use Rattle.controller.specs.Instructions as instructions
 use Rattle.controller.specs.Instructions.{withFunction, begun, obeyed, modes}
 use Rattle.controller.specs.Data.{movedOn}
 use Rattle.controller.specs.Named.{instructionNames, writeNames, readNames}
-use Rattle.deeds.specs.Transfers.{Acted, acted, obeyedActed, executed, written, readOut, statusRead, carriedOut, performed}
+use Rattle.base.specs.Choice.{if_then_else_}
+use Rattle.table.specs.Touches.{touches}
+use Rattle.deeds.specs.Time.{lost, instructionCost, cost}
+use Rattle.deeds.specs.Transfers.{Acted, acted, obeyedActed, executed, written, readOut, statusRead, carriedOut, nothingDone, atCost, onTime, performed}
 use Rattle.events.specs.declared.Transfer.{Transfer}
 use Rattle.events.specs.declared.Transfer.the-variants.{Instruct, Write, Status, Read}
 use Rattle.events.specs.declared.Deed.{Deed}
-use Rattle.events.specs.declared.Deed.the-variants.{Nothing, Whole, Fresh}
+use Rattle.events.specs.declared.Deed.the-variants.{Nothing, Whole, Fresh, Pass}
 use Rattle.links.specs.Halves as halves
 use Rattle.connector.specs.Items.{WholeWrite, write, deed, SameButBit4, same, functionSets}
 use Rattle.connector.specs.Connector.{act}
@@ -102,7 +105,7 @@ function-sets-but-dl m c b d p q r s e =
     rw (functionSet-said (modes c) b p q, functionSet-said (modes c) d r s, bit2-same b d e, bit1-same b d e)
     (function-set-but-dl m c (bit 4 b) (bit 4 d) (bit 2 d) (bit 1 d))
 
-pub carriedOut-but-dl : (m : Memories) (c : Control) {register : Bool} {b d : ℕ} → SameButBit4 register b d →
+carriedOut-but-dl : (m : Memories) (c : Control) {register : Bool} {b d : ℕ} → SameButBit4 register b d →
     actedButDl (carriedOut m c (halves.writing register b)) ≡ actedButDl (carriedOut m (withDl true c) (halves.writing register d))
 unfolding carriedOut executed written movedOn writeNames
 carriedOut-but-dl m c (same {register = false} {b = b}) = obeyed-but-dl m c (said (modes c) b)
@@ -114,15 +117,58 @@ read-but-dl : (m : Memories) (c : Control) → actedButDl (acted m (readOut m c)
 unfolding readOut readNames movedOn
 read-but-dl m c = by-test (c .place .dummy) (λ t. rw t) (λ t. rw t)
 
+-- so the same transfers are lost, and the others cost the same
+module _ (m : Memories) (c : Control) where
+  -- lost, or carried out at its cost, but for DL
+  outcome : Bool → ℕ → Acted → Acted
+  outcome is n a = if is then acted m (nothingDone (withDl true c)) else acted (a .memories) (atCost n (a .done))
+
+  loses : (is : Bool) (n : ℕ) (a : Acted) →
+      actedButDl (if is then acted m (nothingDone c) else acted (a .memories) (atCost n (a .done))) ≡ outcome is n (actedButDl a)
+  unfolding outcome
+  loses true n a = refl
+  loses false n a = refl
+
+  loses-too : (is : Bool) (n : ℕ) (a : Acted) →
+      actedButDl (if is then acted m (nothingDone (withDl true c)) else acted (a .memories) (atCost n (a .done))) ≡ outcome is n (actedButDl a)
+  unfolding outcome
+  loses-too true n a = refl
+  loses-too false n a = refl
+
+  onTime-alike : (t u : Transfer) → lost c t ≡ lost (withDl true c) u → cost c t ≡ cost (withDl true c) u →
+      actedButDl (carriedOut m c t) ≡ actedButDl (carriedOut m (withDl true c) u) →
+      actedButDl (onTime m c t) ≡ actedButDl (onTime m (withDl true c) u)
+  unfolding onTime
+  onTime-alike t u l k q =
+      loses (lost c t) (cost c t) (carriedOut m c t)
+      ∙ ap (λ (is : Bool). outcome is (cost c t) (actedButDl (carriedOut m c t))) l
+      ∙ ap (λ (n : ℕ). outcome (lost (withDl true c) u) n (actedButDl (carriedOut m c t))) k
+      ∙ ap (outcome (lost (withDl true c) u) (cost (withDl true c) u)) q
+      ∙ sym (loses-too (lost (withDl true c) u) (cost (withDl true c) u) (carriedOut m (withDl true c) u))
+
+  -- function sets cost the same, whatever bit 4 is
+  function-sets-cost : (b d : ℕ) → 0x20 ≤ b → b < 0x40 → 0x20 ≤ d → d < 0x40 → cost c (Instruct b) ≡ cost (withDl true c) (Instruct d)
+  function-sets-cost b d p q r s =
+      ap (λ (i : Instruction). instructionCost (touches i)) (functionSet-said (modes c) b p q)
+      ∙ sym (ap (λ (i : Instruction). instructionCost (touches i)) (functionSet-said (modes c) d r s))
+
+  pub onTime-but-dl : {register : Bool} {b d : ℕ} → SameButBit4 register b d →
+      actedButDl (onTime m c (halves.writing register b)) ≡ actedButDl (onTime m (withDl true c) (halves.writing register d))
+  onTime-but-dl (same {register = false} {b = b}) = onTime-alike (Instruct b) (Instruct b) refl refl (carriedOut-but-dl m c (same {register = false} {b = b}))
+  onTime-but-dl (same {register = true} {b = b}) = onTime-alike (Write b) (Write b) refl refl (carriedOut-but-dl m c (same {register = true} {b = b}))
+  onTime-but-dl (functionSets {b = b} {c = d} p q r s e) =
+      onTime-alike (Instruct b) (Instruct d) refl (function-sets-cost b d p q r s) (carriedOut-but-dl m c (functionSets p q r s e))
+
 -- so it is with every deed
 pub performed-but-dl : (m : Memories) (c : Control) (d : Deed) → actedButDl (performed m c d) ≡ actedButDl (performed m (withDl true c) d)
 unfolding performed carriedOut statusRead
 performed-but-dl m c Nothing = refl
-performed-but-dl m c (Whole (Instruct byte)) = carriedOut-but-dl m c (same {register = false} {b = byte})
-performed-but-dl m c (Whole (Write byte)) = carriedOut-but-dl m c (same {register = true} {b = byte})
-performed-but-dl m c (Whole Status) = refl
-performed-but-dl m c (Whole Read) = read-but-dl m c
+performed-but-dl m c (Whole (Instruct byte)) = onTime-but-dl m c (same {register = false} {b = byte})
+performed-but-dl m c (Whole (Write byte)) = onTime-but-dl m c (same {register = true} {b = byte})
+performed-but-dl m c (Whole Status) = onTime-alike m c Status Status refl refl refl
+performed-but-dl m c (Whole Read) = onTime-alike m c Read Read refl refl (read-but-dl m c)
 performed-but-dl m c (Fresh pin) = refl
+performed-but-dl m c (Pass eights) = refl
 
 -- the picture and the named bytes do not look at DL
 boardAfter-but-dl : (e : Seen) (b : Board) (a : Acted) → boardButDl (boardAfter e b a) ≡ boardButDl (boardAfter e b (actedButDl a))
@@ -141,8 +187,8 @@ module _ (e : Seen) where
       boardButDl (act (board e) s register b) ≡ boardButDl (act (board e) (boardButDl s) register d)
   unfolding performed
   act-but-dl s {register} {b} {d} q =
-      acted-but-dl s (carriedOut (s .memories) (s .control) (halves.writing register b))
-      (carriedOut (s .memories) (withDl true (s .control)) (halves.writing register d)) (carriedOut-but-dl (s .memories) (s .control) q)
+      acted-but-dl s (onTime (s .memories) (s .control) (halves.writing register b))
+      (onTime (s .memories) (withDl true (s .control)) (halves.writing register d)) (onTime-but-dl (s .memories) (s .control) q)
 
   deed-but-dl : (s : Board) (d : Deed) →
       boardButDl (board e .perform s d .state) ≡ boardButDl (board e .perform (boardButDl s) d .state)
@@ -170,10 +216,10 @@ module _ (e : Seen) where
         countOf (performed (s .memories) (s .control) (deed (write w))) ≡ countOf (performed (t .memories) (t .control) (deed (write v)))
     unfolding performed
     write-count-agrees w v p q =
-        ap countOf (carriedOut-but-dl (s .memories) (s .control) q)
-        ∙ ap (λ (x : Board). countOf (carriedOut (x .memories) (x .control) (halves.writing (w .register) (v .byte)))) same-board
-        ∙ sym (ap countOf (carriedOut-but-dl (t .memories) (t .control) {register = w .register} {b = v .byte} same))
-        ∙ ap (λ (r : Bool). countOf (carriedOut (t .memories) (t .control) (halves.writing r (v .byte)))) p
+        ap countOf (onTime-but-dl (s .memories) (s .control) q)
+        ∙ ap (λ (x : Board). countOf (onTime (x .memories) (x .control) (halves.writing (w .register) (v .byte)))) same-board
+        ∙ sym (ap countOf (onTime-but-dl (t .memories) (t .control) {register = w .register} {b = v .byte} same))
+        ∙ ap (λ (r : Bool). countOf (onTime (t .memories) (t .control) (halves.writing r (v .byte)))) p
 
     pub deed-count-agrees : (d : Deed) → countOf (performed (s .memories) (s .control) d) ≡ countOf (performed (t .memories) (t .control) d)
     deed-count-agrees d =

@@ -10,7 +10,7 @@ use Rattle.base.proofs.Choice.{by-test}
 use Rattle.controller.specs.declared.Control.{Control}
 use Rattle.controller.specs.Memories.{Memories}
 use Rattle.events.specs.declared.Event.{Event}
-use Rattle.events.specs.declared.Event.the-variants.{Transfer, Bit, SelectLow, Reset}
+use Rattle.events.specs.declared.Event.the-variants.{Transfer, Bit, SelectLow, Reset, Pass}
 use Rattle.links.specs.declared.Link.{Link}
 use Rattle.links.specs.declared.Link.the-variants.{Parallel, Serial}
 use Rattle.links.specs.declared.Taken.{Taken}
@@ -19,10 +19,10 @@ use Rattle.links.specs.Taken.{takenBy}
 use Rattle.picture.specs.Picture.{Seen}
 use Rattle.picture.specs.Refusals.{refusalOf, drawn}
 use Rattle.calls.specs.State.{State}
-use Rattle.calls.specs.Calls.{unlessOther, takenOn, called}
+use Rattle.calls.specs.Calls.{unlessOther, takenOn, timeless, called}
 use Rattle.calls.proofs.Kept.{called-unmoved}
 use Rattle.demands.specs.Demand1.{TableSays, ofOtherLink, CallRefuses, DrawRefuses}
-use Rattle.demands.proofs.Tables.{orOther, table-says}
+use Rattle.demands.proofs.Tables.{orWants, table-says}
 
 abbrev isOther : Taken → Bool
 isOther OtherLink = true
@@ -37,6 +37,7 @@ other-taken dl (Serial receiver) (Bit b) = refl
 other-taken dl (Parallel pairing) SelectLow = refl
 other-taken dl (Serial receiver) SelectLow = refl
 other-taken dl l (Reset pin) = refl
+other-taken dl l (Pass eights) = refl
 
 other-number : (e : Seen) (s : State) (frame : List ℕ) (t : Taken) → unlessOther e s frame t .number ≡ (if isOther t then 5 else 0)
 other-number e s frame OtherLink = refl
@@ -45,25 +46,29 @@ other-number e s frame (Carries c) = refl
 module _ (e : Seen) (s : State) (frame : List ℕ) (call : Event) where
   pub call-number :
       called e s frame call .number
-      ≡ orOther (ofOtherLink (s .link) call) (refusalOf (length frame) (length (e .fonts .half)) (length (e .fonts .full)))
+      ≡ orWants (timeless (s .control) call) (ofOtherLink (s .link) call) (refusalOf (length frame) (length (e .fonts .half)) (length (e .fonts .full)))
   unfolding called
   call-number =
       by-test (eqb (refusalOf (length frame) (length (e .fonts .half)) (length (e .fonts .full))) 0)
       (λ t. rw t
+      (by-test (timeless (s .control) call) (λ w. rw w)
+      (λ w. rw w
       (other-number e s frame (takenOn s call)
-      ∙ ap (λ (b : Bool). if b then 5 else 0) (other-taken (s .control .function .dl) (s .link) call)))
+      ∙ ap (λ (b : Bool). if b then 5 else 0) (other-taken (s .control .function .dl) (s .link) call)))))
       (λ t. rw t)
 
   pub call-refuses : CallRefuses e s frame call
   call-refuses =
       record {
-        says = subst (TableSays e frame (ofOtherLink (s .link) call)) (sym call-number) (table-says e frame (ofOtherLink (s .link) call));
+        says =
+            subst (TableSays e frame (timeless (s .control) call) (ofOtherLink (s .link) call)) (sym call-number)
+            (table-says e frame (timeless (s .control) call) (ofOtherLink (s .link) call));
         keeps = called-unmoved e s frame call;
       }
 
 module _ (e : Seen) (m : Memories) (c : Control) (frame : List ℕ) where
   draw-number :
-      drawn e m c frame .number ≡ orOther false (refusalOf (length frame) (length (e .fonts .half)) (length (e .fonts .full)))
+      drawn e m c frame .number ≡ orWants false false (refusalOf (length frame) (length (e .fonts .half)) (length (e .fonts .full)))
   unfolding drawn
   draw-number =
       by-test (eqb (refusalOf (length frame) (length (e .fonts .half)) (length (e .fonts .full))) 0) (λ t. rw t) (λ t. rw t)
@@ -72,7 +77,7 @@ module _ (e : Seen) (m : Memories) (c : Control) (frame : List ℕ) where
   unfolding drawn
   draw-refuses =
       record {
-        says = subst (TableSays e frame false) (sym draw-number) (table-says e frame false);
+        says = subst (TableSays e frame false false) (sym draw-number) (table-says e frame false false);
         keeps =
             by-test (eqb (refusalOf (length frame) (length (e .fonts .half)) (length (e .fonts .full))) 0)
             (λ t. rw t (λ h. absurd (h refl)))

@@ -8,7 +8,7 @@ use lib.Dec.{eqb}
 use lib.ListN.{length, getD}
 use Rattle.base.specs.Choice.{if_then_else_}
 use Rattle.base.specs.Painting.{count}
-use Rattle.base.proofs.Choice.{either, by-test}
+use Rattle.base.proofs.Choice.{either-told, by-test}
 use Rattle.base.proofs.Counting.{count-none}
 use Rattle.base.proofs.Painting.{painted-at}
 use Rattle.base.proofs.Tests.{or-neither}
@@ -25,10 +25,11 @@ use Rattle.picture.proofs.Wide.{picture-at}
 use Rattle.picture.proofs.Accepted as sizes
 use Rattle.repaint.specs.Repaint.{named, repainted, countNamed}
 use Rattle.calls.specs.State.{State, Valid}
-use Rattle.calls.specs.Calls.{Called, unlessOther, takenOn, reaching, Fits, called, afterCalls}
+use Rattle.calls.specs.Calls.{Called, unlessOther, takenOn, reaching, timeless, Fits, called, afterCalls}
 use Rattle.calls.proofs.Kept.{fresh-state-valid, called-valid, admitted, still-fits}
 use Rattle.demands.proofs.Repainted.{performed-unnamed}
 use Rattle.demands.proofs.Bounded.{at-most-64, glyph-at-most-32, graphic-at-most-1}
+use Rattle.demands.proofs.Timely.{timeless-names}
 use Rattle.demands.proofs.Sequences.{after-valid, after-length, after-shows}
 use Rattle.demands.specs.Demand3.{pictureOf, namedActed, namedBy, everNamed, PictureStands, NamedBytesShown, CountIsNumber, Demand3}
 
@@ -46,7 +47,10 @@ taken-counts e s frame (Carries c) = refl
 
 count-is-number : CountIsNumber
 count-is-number e s frame call fits =
-    rw (admitted e s frame call fits) (taken-counts e s frame (takenOn s call))
+    rw (admitted e s frame call fits)
+    (either-told (λ (k : Called). k .count ≡ count 1024 (namedBy s call)) (timeless (s .control) call)
+    (λ w. sym (count-none 1024 (namedBy s call) (λ i h. timeless-names s call i w)))
+    (λ w. taken-counts e s frame (takenOn s call)))
 
 -- what one call leaves of the byte at a place of the frame
 taken-shows :
@@ -82,13 +86,18 @@ module _ (e : Seen) (s : State) (frame : List ℕ) (call : Event) (i : ℕ) (fit
       ≡ (if namedBy s call i then getD (pictureOf e (called e s frame call .state)) i 0 else getD frame i 0)
   call-shows =
       rw (admitted e s frame call fits)
-      (taken-shows e s frame (takenOn s call) i
-      (sizes.accepted (length frame) (length (e .fonts .half)) (length (e .fonts .full)) fits .frame) h)
+      (either-told
+      (λ (k : Called). getD (k .frame) i 0 ≡ (if namedBy s call i then getD (pictureOf e (k .state)) i 0 else getD frame i 0))
+      (timeless (s .control) call)
+      (λ w. rw (timeless-names s call i w))
+      (λ w. taken-shows e s frame (takenOn s call) i
+      (sizes.accepted (length frame) (length (e .fonts .half)) (length (e .fonts .full)) fits .frame) h))
 
   call-keeps : Valid s → namedBy s call i ≡ false → getD (pictureOf e (called e s frame call .state)) i 0 ≡ getD (pictureOf e s) i 0
   call-keeps v u =
       rw (admitted e s frame call fits)
-      (taken-keeps e s frame (takenOn s call) i v h u)
+      (either-told (λ (k : Called). getD (pictureOf e (k .state)) i 0 ≡ getD (pictureOf e s) i 0) (timeless (s .control) call) (λ w. refl)
+      (λ w. taken-keeps e s frame (takenOn s call) i v h u))
 
 -- over a sequence, a place that no call names keeps its picture byte
 after-keeps :

@@ -19,7 +19,8 @@ use Rattle.controller.specs.Memories.{Memories}
 use Rattle.controller.specs.Instructions as instructions
 use Rattle.controller.specs.Instructions.{obeyed, modes}
 use Rattle.controller.specs.Data.{movedOn}
-use Rattle.deeds.specs.Transfers.{executed, written, carriedOut, performed}
+use Rattle.deeds.specs.Time.{lost}
+use Rattle.deeds.specs.Transfers.{Acted, executed, written, carriedOut, onTime, performed}
 use Rattle.links.specs.Halves as halves
 use Rattle.connector.specs.Items.{WholeWrite, wholeBytes, halves, serial}
 use Rattle.connector.specs.Connector.{act, HasDl}
@@ -117,13 +118,23 @@ module _ (dl : Bool) where
   write-dl m c false b h k = obeyed-dl c (said (modes c) b) h (said-has (modes c) b (k refl))
   write-dl m c true b h k = h
 
+  -- a lost write leaves DL
+  onTime-dl :
+      (m : Memories) (c : Control) (register : Bool) (b : ℕ)
+      → c .function .dl ≡ dl
+      → (register ≡ false → 0x20 ≤ b → b < 0x40 → bit 4 b ≡ dl)
+      → onTime m c (halves.writing register b) .done .control .function .dl ≡ dl
+  unfolding onTime
+  onTime-dl m c register b h k =
+      either (λ (a : Acted). a .done .control .function .dl ≡ dl) (lost c (halves.writing register b)) h (write-dl m c register b h k)
+
   writes-dl : (e : Seen) (writes : List WholeWrite) (b : Board) → b .control .function .dl ≡ dl → SetsDl dl writes → HasDl (board e) dl b (items writes)
   unfolding HasDl SetsDl performed
   writes-dl e [] b h k = h
   writes-dl e (w ∷ writes) b h k = (
     h,
     writes-dl e writes (act (board e) b (w .register) (w .byte))
-        (write-dl (b .memories) (b .control) (w .register) (w .byte) h (k .0)) (k .1),
+        (onTime-dl (b .memories) (b .control) (w .register) (w .byte) h (k .0)) (k .1),
   )
 
 pub function-sets-keep-dl : FunctionSetsKeepDl

@@ -5,6 +5,8 @@ pub mod ButDl
 pub mod ItemCounts
 pub mod Agreement
 pub mod KeepDl
+pub mod Timely
+pub mod Calm
 pub mod Tables
 pub mod Calls
 pub mod Replays

@@ -12,6 +12,7 @@ use Rattle.table.specs.declared.Modes.{Modes}
 use Rattle.table.specs.declared.Instruction.{Instruction}
 use Rattle.table.specs.declared.Instruction.the-variants.{GlyphAddress, TextAddress, GraphicAddress}
 use Rattle.table.specs.Table.{said}
+use Rattle.controller.specs.declared.Time.{Time}
 use Rattle.controller.specs.declared.Control.{Control}
 use Rattle.controller.specs.declared.Place.{Place}
 use Rattle.controller.specs.declared.Entry.{Entry}
@@ -22,7 +23,7 @@ use Rattle.controller.specs.declared.Waiting.the-variants.{Nothing, Row}
 use Rattle.controller.specs.Memories.{Memories}
 use Rattle.controller.specs.Instructions.{pointed, stepped, withWaiting, obeyed}
 use Rattle.controller.specs.Data.{stored, found, moved, movedOn}
-use Rattle.deeds.specs.Transfers.{executed, written, readOut, statusRead, carriedOut, performed}
+use Rattle.deeds.specs.Transfers.{executed, written, readOut, statusRead, carriedOut, onTime, performed}
 use Rattle.events.specs.declared.Event.{Event}
 use Rattle.events.specs.declared.Event.the-variants.{Transfer}
 use Rattle.events.specs.declared.Transfer.the-variants.{Instruct, Write}
@@ -33,7 +34,7 @@ use Rattle.links.specs.Taken.{byWidth, takenBy}
 use Rattle.picture.specs.Picture.{Seen}
 use Rattle.calls.specs.State.{State, state}
 use Rattle.calls.specs.Calls.{Fits, called}
-use Rattle.demands.specs.Wires.{answers}
+use Rattle.demands.specs.Wires.{answers, noTime}
 use Rattle.calls.proofs.Kept.{still-fits}
 use Rattle.demands.specs.Demand1.{isSerial}
 use Rattle.demands.specs.Readings.{instruct, writeData, readStatus, readData}
@@ -78,23 +79,23 @@ module _ (q : Pairing) (entry : Entry) (shown : Shown) (g : Bool) where
   -- a panel that takes bytes, at a place
   abbrev at : Memories → Place → Bool → Bool → View → Bool → State
   at m p re sr v standby =
-      state m (record { place = p; entry = entry; shown = shown; function = record { dl = true; re = re; g = g }; sr = sr; view = v; standby = standby }) (Parallel q)
+      state m (record { place = p; entry = entry; shown = shown; function = record { dl = true; re = re; g = g }; sr = sr; view = v; standby = standby; time = noTime }) (Parallel q)
 
   module _ (m : Memories) (p : Place) (sr : Bool) (v : View) (standby : Bool) where
     to-text : (a : ℕ) → a < 64 → (calls : List Event)
         → replies (at m p false sr v standby) (toText a ++ calls) ≡ 0 ∷ replies (at m (pointed Text a (p .row)) false sr v false) calls
-    unfolding replies tells takenBy byWidth performed carriedOut executed obeyed
+    unfolding replies tells takenBy byWidth performed onTime carriedOut executed obeyed
     to-text a h calls = rw (text-address sr (p .target) a h)
 
     to-glyph : (a : ℕ) → a < 64 → (calls : List Event)
         → replies (at m p false false v standby) (toGlyph a ++ calls) ≡ 0 ∷ replies (at m (pointed Glyph a (p .row)) false false v false) calls
-    unfolding replies tells takenBy byWidth performed carriedOut executed obeyed
+    unfolding replies tells takenBy byWidth performed onTime carriedOut executed obeyed
     to-glyph a h calls = rw (glyph-address (p .target) a h)
 
     to-graphic : (row column : ℕ) → row < 64 → column < 16 → (calls : List Event)
         → replies (at m (withWaiting Nothing p) true sr v standby) (toGraphic row column ++ calls)
         ≡ 0 ∷ 0 ∷ replies (at m (pointed Graphic column row) true sr v false) calls
-    unfolding replies tells takenBy byWidth performed carriedOut executed obeyed
+    unfolding replies tells takenBy byWidth performed onTime carriedOut executed obeyed
     to-graphic row column h l calls =
         let r : row % 64 ≡ row = omega arith in
         let k : column % 16 ≡ column = omega arith in
@@ -105,7 +106,7 @@ module _ (q : Pairing) (entry : Entry) (shown : Shown) (g : Bool) where
     text-back :
         (a : ℕ) → a < 64 → length (m .text) ≡ 128
         → replies (at m p false sr v standby) (thereAndBack (toText a) b c) ≡ bothRead (toText a) a (stepped (entry .id) a) b c
-    unfolding replies tells takenBy byWidth performed carriedOut written readOut statusRead stored found moved movedOn
+    unfolding replies tells takenBy byWidth performed onTime carriedOut written readOut statusRead stored found moved movedOn
     text-back a h long =
         let to = at m (pointed Text a (p .row)) false sr v false in
         let one = written m (to .control) b in
@@ -119,7 +120,7 @@ module _ (q : Pairing) (entry : Entry) (shown : Shown) (g : Bool) where
     glyph-back :
         (a : ℕ) → a < 64 → length (m .glyph) ≡ 128
         → replies (at m p false false v standby) (thereAndBack (toGlyph a) b c) ≡ bothRead (toGlyph a) a (stepped (entry .id) a) b c
-    unfolding replies tells takenBy byWidth performed carriedOut written readOut statusRead stored found moved movedOn
+    unfolding replies tells takenBy byWidth performed onTime carriedOut written readOut statusRead stored found moved movedOn
     glyph-back a h long =
         let to = at m (pointed Glyph a (p .row)) false false v false in
         let one = written m (to .control) b in
@@ -134,7 +135,7 @@ module _ (q : Pairing) (entry : Entry) (shown : Shown) (g : Bool) where
         (row column : ℕ) → row < 64 → column < 16 → length (m .graphic) ≡ 2048
         → replies (at m (withWaiting Nothing p) true sr v standby) (thereAndBack (toGraphic row column) b c)
         ≡ bothRead (toGraphic row column) column ((column + 1) % 16) b c
-    unfolding replies tells takenBy byWidth performed carriedOut written readOut statusRead stored found moved movedOn
+    unfolding replies tells takenBy byWidth performed onTime carriedOut written readOut statusRead stored found moved movedOn
     graphic-back row column h k long =
         let to = at m (pointed Graphic column row) true sr v false in
         let one = written m (to .control) b in
@@ -151,12 +152,13 @@ as-bytes :
     (P : State → Type 0) (s : State)
     → isSerial (s .link) ≡ false
     → s .control .function .dl ≡ true
+    → s .control .time ≡ noTime
     → ((q : Pairing) → P (at q (s .control .entry) (s .control .shown) (s .control .function .g) (s .memories) (s .control .place) (s .control .function .re) (s .control .sr) (s .control .view) (s .control .standby)))
     → P s
-as-bytes P s parallel wide k = by (s .link) (s .control .function .dl) parallel wide
+as-bytes P s parallel wide untimed k = subst (λ (t : Time). P (with t (s .link) (s .control .function .dl))) (sym untimed) (by (s .link) (s .control .function .dl) parallel wide)
   where
-    with : Link → Bool → State
-    with l dl =
+    with : Time → Link → Bool → State
+    with t l dl =
         state (s .memories)
         (record {
           place = s .control .place;
@@ -166,10 +168,11 @@ as-bytes P s parallel wide k = by (s .link) (s .control .function .dl) parallel 
           sr = s .control .sr;
           view = s .control .view;
           standby = s .control .standby;
+          time = t;
         })
         l
 
-    by : (l : Link) (dl : Bool) → isSerial l ≡ false → dl ≡ true → P (with l dl)
+    by : (l : Link) (dl : Bool) → isSerial l ≡ false → dl ≡ true → P (with noTime l dl)
     by (Parallel q) true x y = k q
     by (Parallel q) false x y = absurd (true≢false (sym y))
     by (Serial r) dl x y = absurd (true≢false x)
@@ -189,7 +192,7 @@ module _ (e : Seen) (s : State) (frame : List ℕ) (b c : ℕ) (takes : TakesByt
       → repliesTo e s frame (thereAndBack (toText a) b c) ≡ bothRead (toText a) a (stepped (entry .id) a) b c
   text-read a re h =
       replies-told e (thereAndBack (toText a) b c) s frame (takes .fits)
-      ∙ as-bytes (Replies (toText a) a (stepped (entry .id) a)) s (takes .parallel) (takes .wide)
+      ∙ as-bytes (Replies (toText a) a (stepped (entry .id) a)) s (takes .parallel) (takes .wide) (takes .untimed)
       (λ q. subst (λ (x : Bool). Replies (toText a) a (stepped (entry .id) a) (own (s .control .place) x (s .control .sr) q)) (sym re)
       (text-back q entry (s .control .shown) (s .control .function .g) (s .memories) (s .control .place) (s .control .sr) (s .control .view) (s .control .standby) b c a h (takes .valid .text)))
 
@@ -197,7 +200,7 @@ module _ (e : Seen) (s : State) (frame : List ℕ) (b c : ℕ) (takes : TakesByt
       → repliesTo e s frame (thereAndBack (toGlyph a) b c) ≡ bothRead (toGlyph a) a (stepped (entry .id) a) b c
   glyph-read a re sr h =
       replies-told e (thereAndBack (toGlyph a) b c) s frame (takes .fits)
-      ∙ as-bytes (Replies (toGlyph a) a (stepped (entry .id) a)) s (takes .parallel) (takes .wide)
+      ∙ as-bytes (Replies (toGlyph a) a (stepped (entry .id) a)) s (takes .parallel) (takes .wide) (takes .untimed)
       (λ q. subst (λ (x : Bool). Replies (toGlyph a) a (stepped (entry .id) a) (own (s .control .place) x (s .control .sr) q)) (sym re)
       (subst (λ (x : Bool). Replies (toGlyph a) a (stepped (entry .id) a) (own (s .control .place) false x q)) (sym sr)
       (glyph-back q entry (s .control .shown) (s .control .function .g) (s .memories) (s .control .place) (s .control .sr) (s .control .view) (s .control .standby) b c a h (takes .valid .glyph))))
@@ -206,7 +209,7 @@ module _ (e : Seen) (s : State) (frame : List ℕ) (b c : ℕ) (takes : TakesByt
       → repliesTo e s frame (thereAndBack (toGraphic row column) b c) ≡ bothRead (toGraphic row column) column ((column + 1) % 16) b c
   graphic-read row column re waits h k =
       replies-told e (thereAndBack (toGraphic row column) b c) s frame (takes .fits)
-      ∙ as-bytes (Replies (toGraphic row column) column ((column + 1) % 16)) s (takes .parallel) (takes .wide)
+      ∙ as-bytes (Replies (toGraphic row column) column ((column + 1) % 16)) s (takes .parallel) (takes .wide) (takes .untimed)
       (λ q. subst (λ (x : Bool). Replies (toGraphic row column) column ((column + 1) % 16) (own (s .control .place) x (s .control .sr) q)) (sym re)
       (subst (λ (w : Waiting). Replies (toGraphic row column) column ((column + 1) % 16) (own (withWaiting w (s .control .place)) true (s .control .sr) q)) (sym waits)
       (graphic-back q entry (s .control .shown) (s .control .function .g) (s .memories) (s .control .place) (s .control .sr) (s .control .view) (s .control .standby) b c row column h k (takes .valid .graphic))))

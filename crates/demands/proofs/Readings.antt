@@ -1,10 +1,12 @@
 -- The readings, by computation. What a call reads off does not depend on what the frame holds, so frames are left out of it first.
 use Prim.{Unit, tt}
 use Prim.Native.Nat.{ℕ}
+use mathlib.Core.Bool.{Bool, true, false}
 use mathlib.Core.List.{List, [], _∷_, map}
 use mathlib.Core.Logic.{_⊎_, inl, inr}
 use mathlib.Core.Path.{_≡_, refl, ap, sym, subst, _∙_}
 use lib.ListN.{length, replicate}
+use Rattle.base.specs.Choice.{if_then_else_}
 use Rattle.base.specs.Painting.{count}
 use Rattle.table.specs.Table.{rowOf, said}
 use Rattle.controller.specs.Memories.{freshMemories}
@@ -13,7 +15,7 @@ use Rattle.controller.specs.Instructions.{obeyed}
 use Rattle.controller.specs.Data.{stored, found, moved, movedOn}
 use Rattle.controller.specs.Glass.{shownRow, shownWord}
 use Rattle.controller.specs.Named.{instructionNames, writeNames, readNames, inCell, covers}
-use Rattle.deeds.specs.Transfers.{executed, written, readOut, statusRead, carriedOut, performed}
+use Rattle.deeds.specs.Transfers.{executed, written, readOut, statusRead, carriedOut, onTime, performed}
 use Rattle.events.specs.declared.Event.{Event}
 use Rattle.links.specs.declared.Taken.{Taken}
 use Rattle.links.specs.declared.Taken.the-variants.{OtherLink, Carries}
@@ -25,10 +27,10 @@ use Rattle.picture.specs.Picture.{Seen}
 use Rattle.picture.specs.Refusals.{refusalOf}
 use Rattle.repaint.specs.Repaint.{named, countNamed}
 use Rattle.calls.specs.State.{State, state, freshState}
-use Rattle.calls.specs.Calls.{Called, accepted, unlessOther, takenOn, Fits, called, afterCalls}
+use Rattle.calls.specs.Calls.{Called, accepted, refused, unlessOther, takenOn, timeless, Fits, called, afterCalls}
 use Rattle.demands.specs.Wires.{answers}
 use Rattle.calls.proofs.Kept.{admitted, still-fits}
-use Rattle.demands.specs.Readings.{Case, cases, zeroFonts, Observed, observed, AllRead, AllHold, ReadingsHold}
+use Rattle.demands.specs.Readings.{Case, cases, timedCases, zeroFonts, Observed, observed, AllRead, AllHold, ReadingsHold, TimedReadingsHold}
 
 -- what a call leaves but the frame
 pub record Told : Type 0 where
@@ -45,7 +47,7 @@ toldBy s OtherLink = record { state = s; number = 5; reply = 0; count = 0 }
 toldBy s (Carries c) = told (accepted zeroFonts [] (performed (s .memories) (s .control) (c .deed)) (c .rest))
 
 unfoldable pub tells : State → Event → Told
-tells s call = toldBy s (takenOn s call)
+tells s call = if timeless (s .control) call then record { state = s; number = 8; reply = 0; count = 0 } else toldBy s (takenOn s call)
 
 allTold : State → List Event → List Told
 allTold s [] = []
@@ -59,11 +61,18 @@ taken-told : (e : Seen) (s : State) (frame : List ℕ) (t : Taken) → told (unl
 taken-told e s frame OtherLink = refl
 taken-told e s frame (Carries c) = refl
 
+timely-told :
+    (e : Seen) (s : State) (frame : List ℕ) (t : Taken) (w : Bool)
+    → told (if w then refused s frame 8 else unlessOther e s frame t)
+    ≡ (if w then record { state = s; number = 8; reply = 0; count = 0 } else toldBy s t)
+timely-told e s frame t true = refl
+timely-told e s frame t false = taken-told e s frame t
+
 module _ (e : Seen) where
   pub call-told : (s : State) (frame : List ℕ) (call : Event) → Fits e frame → told (called e s frame call) ≡ tells s call
   unfolding tells
   call-told s frame call fits =
-      ap told (admitted e s frame call fits) ∙ taken-told e s frame (takenOn s call)
+      ap told (admitted e s frame call fits) ∙ timely-told e s frame (takenOn s call) (timeless (s .control) call)
 
   all-told : (calls : List Event) (s : State) (frame : List ℕ) → Fits e frame → map told (answers e s frame calls) ≡ allTold s calls
   unfolding answers allTold
@@ -121,7 +130,7 @@ all-hold [] h = tt
 all-hold (r ∷ rows) h = (holds r (h .0), all-hold rows (h .1))
 
 rows-hold : AllRows cases
-unfolding AllRows Holds AllRead cases allTold lastState tells answers called takenBy byWidth performed carriedOut executed written readOut statusRead obeyed said rowOf stored found moved movedOn instructionNames writeNames readNames covers inCell shownRow shownWord named countNamed count refusalOf freshControl freshMemories freshState bitsOf heard counted afterHeader headerBit bodyBit completed numberOf
+unfolding AllRows Holds AllRead cases allTold lastState tells answers called takenBy byWidth performed onTime carriedOut executed written readOut statusRead obeyed said rowOf stored found moved movedOn instructionNames writeNames readNames covers inCell shownRow shownWord named countNamed count refusalOf freshControl freshMemories freshState bitsOf heard counted afterHeader headerBit bodyBit completed numberOf
 rows-hold = (
   inl (refl, (refl, tt)),
   (
@@ -168,3 +177,25 @@ rows-hold = (
 
 pub readings-hold : ReadingsHold
 readings-hold = all-hold cases rows-hold
+
+timed-rows-hold : AllRows timedCases
+unfolding AllRows Holds AllRead timedCases allTold lastState tells answers called takenBy byWidth performed onTime carriedOut executed written readOut statusRead obeyed said rowOf stored found moved movedOn instructionNames writeNames readNames covers inCell shownRow shownWord named countNamed count refusalOf freshControl freshMemories freshState bitsOf heard counted afterHeader headerBit bodyBit completed numberOf
+timed-rows-hold = (
+  inl (refl, (refl, (refl, tt))),
+  (
+    inl (refl, (refl, (refl, (refl, tt)))),
+    (
+      inl (refl, (refl, (refl, (refl, tt)))),
+      (
+        inl (refl, (refl, tt)),
+        (
+          inl (refl, (refl, tt)),
+          tt,
+        ),
+      ),
+    ),
+  ),
+)
+
+pub timed-readings-hold : TimedReadingsHold
+timed-readings-hold = all-hold timedCases timed-rows-hold

@@ -4,6 +4,7 @@ use Prim.Native.Nat.{ℕ, _<_, _/_, _%_}
 use mathlib.Core.Bool.{false}
 use mathlib.Core.Path.{_≡_, refl}
 use native.Mathlib.Omega.{arith}
+use Rattle.base.proofs.Choice.{either}
 use Rattle.base.proofs.Layouts.{repainted-whole}
 use Rattle.table.specs.Table.{said}
 use Rattle.controller.specs.declared.Control.{Control}
@@ -11,7 +12,8 @@ use Rattle.controller.specs.Memories.{Memories}
 use Rattle.controller.specs.State.{InRange}
 use Rattle.controller.specs.Instructions.{modes}
 use Rattle.controller.specs.Named.{covers}
-use Rattle.deeds.specs.Transfers.{Acted, executed, statusRead, carriedOut, performed}
+use Rattle.deeds.specs.Time.{lost}
+use Rattle.deeds.specs.Transfers.{Acted, executed, statusRead, carriedOut, onTime, performed}
 use Rattle.events.specs.declared.Event.{Event}
 use Rattle.events.specs.declared.Transfer.{Transfer}
 use Rattle.events.specs.declared.Transfer.the-variants.{Instruct, Write, Status, Read}
@@ -42,11 +44,17 @@ module _ (e : Seen) (m : Memories) (c : Control) (r : InRange c) where
   carriedOut-unnamed Status row column h u = refl
   carriedOut-unnamed Read row column h u = readOut-unnamed (e .fonts) (e .phase) m c row column u
 
+  -- a lost one names nothing and changes nothing, and the picture does not look at time
+  onTime-unnamed : (t : Transfer) → UnnamedKept e m c (onTime m c t)
+  unfolding onTime
+  onTime-unnamed t = either (UnnamedKept e m c) (lost c t) (λ row column h u. refl) (carriedOut-unnamed t)
+
   pub performed-unnamed : (d : Deed) → UnnamedKept e m c (performed m c d)
   unfolding performed
   performed-unnamed deed.Nothing row column h u = refl
-  performed-unnamed (deed.Whole t) row column h u = carriedOut-unnamed t row column h u
+  performed-unnamed (deed.Whole t) row column h u = onTime-unnamed t row column h u
   performed-unnamed (deed.Fresh pin) row column h u = absurd (never-whole _ _ row column u)
+  performed-unnamed (deed.Pass eights) row column h u = refl
 
 -- a frame that was the picture is repainted to the new one
 repainted-picture :

@@ -8,9 +8,10 @@ use lib.Dec.{eqb}
 use Rattle.base.proofs.Choice.{either}
 use Rattle.controller.specs.declared.Control.{Control}
 use Rattle.controller.specs.Memories.{Memories}
-use Rattle.deeds.specs.Transfers.{executed, written, carriedOut, performed}
+use Rattle.deeds.specs.Time.{lost}
+use Rattle.deeds.specs.Transfers.{Acted, executed, written, carriedOut, onTime, performed}
 use Rattle.events.specs.declared.Event.{Event}
-use Rattle.events.specs.declared.Event.the-variants.{Transfer, Bit, SelectLow, Reset}
+use Rattle.events.specs.declared.Event.the-variants.{Transfer, Bit, SelectLow, Reset, Pass}
 use Rattle.events.specs.declared.Transfer.the-variants.{Instruct, Write, Status, Read}
 use Rattle.events.specs.declared.Deed.the-variants.{Whole}
 use Rattle.links.specs.declared.Link.{Link}
@@ -28,7 +29,7 @@ use Rattle.links.specs.Taken.{byWidth, deedOf, takenBy, replied}
 use Rattle.picture.specs.Picture.{Seen}
 use Rattle.picture.specs.Refusals.{refusalOf}
 use Rattle.calls.specs.State.{State}
-use Rattle.calls.specs.Calls.{Called, unlessOther, takenOn, called}
+use Rattle.calls.specs.Calls.{Called, unlessOther, takenOn, timeless, called}
 use Rattle.demands.specs.Demand2.{isRead, RepliesToReads}
 
 module _ (m : Memories) (c : Control) where
@@ -36,9 +37,9 @@ module _ (m : Memories) (c : Control) where
   replyOf x = replied (x .rest) (performed m c (x .deed) .done .reply) .reply
 
   write-reply : (register : Bool) (byte : ℕ) → performed m c (Whole (halves.writing register byte)) .done .reply ≡ 0
-  unfolding performed carriedOut executed written
-  write-reply false byte = refl
-  write-reply true byte = refl
+  unfolding performed onTime carriedOut executed written
+  write-reply false byte = either (λ (a : Acted). a .done .reply ≡ 0) (lost c (Instruct byte)) refl refl
+  write-reply true byte = either (λ (a : Acted). a .done .reply ≡ 0) (lost c (Write byte)) refl refl
 
   half-reply : (pairing : Pairing) (register : Bool) (value : ℕ) → replyOf (halves.writeHalf pairing register value) ≡ 0
   unfolding halves.writeHalf performed
@@ -77,6 +78,7 @@ module _ (m : Memories) (c : Control) where
   taken-reply dl (Parallel pairing) SelectLow h = refl
   taken-reply dl (Serial receiver) SelectLow h = refl
   taken-reply dl l (Reset pin) h = refl
+  taken-reply dl l (Pass eights) h = refl
 
 other-reply : (e : Seen) (s : State) (frame : List ℕ) (t : Taken) → unlessOther e s frame t .reply ≡ takenReply (s .memories) (s .control) t
 other-reply e s frame OtherLink = refl
@@ -86,5 +88,6 @@ pub replies-to-reads : RepliesToReads
 unfolding called
 replies-to-reads e s frame call h =
     either (λ (k : Called). k .reply ≡ 0) (eqb (refusalOf (length frame) (length (e .fonts .half)) (length (e .fonts .full))) 0)
-    (other-reply e s frame (takenOn s call) ∙ taken-reply (s .memories) (s .control) (s .control .function .dl) (s .link) call h)
+    (either (λ (k : Called). k .reply ≡ 0) (timeless (s .control) call) refl
+    (other-reply e s frame (takenOn s call) ∙ taken-reply (s .memories) (s .control) (s .control .function .dl) (s .link) call h))
     refl

@@ -8,6 +8,7 @@ use native.Mathlib.Omega.{arith}
 use Rattle.base.specs.Bits.{bits5-0, bits3-0}
 use Rattle.base.specs.Choice.{if_then_else_}
 use Rattle.controller.specs.declared.Cell.the-variants.{Nowhere, Word}
+use Rattle.controller.specs.declared.Time.{Time}
 use Rattle.controller.specs.declared.Control.{Control}
 use Rattle.controller.specs.declared.Region.{Region}
 use Rattle.controller.specs.declared.Region.the-variants as region
@@ -19,8 +20,8 @@ use Rattle.controller.specs.Memories.{Memories}
 use Rattle.controller.specs.Instructions.{stepped, withWaiting, obeyed}
 use Rattle.controller.specs.Data.{stored, moved, movedOn}
 use Rattle.controller.specs.Named.{counterCell, instructionNames, writeNames, covers}
-use Rattle.deeds.specs.Transfers.{executed, written, carriedOut, performed}
-use Rattle.connector.specs.Items.{WholeWrite, Item, Way, wholeBytes, halves, serial}
+use Rattle.deeds.specs.Transfers.{Acted, obeyedActed, executed, written, carriedOut, onTime, performed}
+use Rattle.connector.specs.Items.{WholeWrite, Item, deed, Way, wholeBytes, halves, serial}
 use Rattle.connector.specs.Connector.{does}
 use Rattle.picture.specs.Picture.{Seen, wide}
 use Rattle.repaint.specs.Repaint.{named, countNamed}
@@ -28,11 +29,15 @@ use Rattle.base.proofs.Counting.{count-all}
 use Rattle.repaint.proofs.Counts.{count-whole}
 use Rattle.calls.specs.State.{State}
 use Rattle.calls.specs.Calls.{Stands}
-use Rattle.demands.specs.Wires.{Board, board, itemCounts, items, SetsDl, SetsWidth}
+use Rattle.demands.specs.Wires.{Board, countOf, boardAfter, board, itemCounts, noTime, items, SetsDl, SetsWidth}
 use Rattle.demands.specs.Agreement.{ReceivedAsGiven}
 use Rattle.demands.specs.Stored.{instruction, datum, withTextWord, withGlyphWord, withGraphicWord, allIf, textSizes, glyphSizes, graphicSizes, Begins, Stores, WordsStored}
+use Rattle.events.specs.declared.Transfer.the-variants.{Instruct}
+use Rattle.table.specs.declared.Instruction.the-variants.{GraphicAddress}
+use Rattle.demands.proofs.Calm.{calm}
 use Rattle.demands.proofs.Addresses.{says-text, says-glyph, says-graphic}
 use Rattle.demands.proofs.Agreement.{none-counted, writes-are-received}
+use Rattle.demands.proofs.Timely.{writes-timely}
 use Rattle.demands.proofs.KeepDl.{function-sets-keep-dl}
 
 -- what the first instruction counts
@@ -44,8 +49,8 @@ waking v text false r = refl
 
 module _ (e : Seen) (frame : List ℕ) (m : Memories) (k : Control) (b c : ℕ) (p : b < 256) (q : c < 256) where
   -- a board with these flags, and all else as it is
-  abbrev from : Bool → Bool → Bool → Waiting → Board
-  from re s sr waiting =
+  abbrev from : Bool → Bool → Bool → Waiting → Time → Board
+  from re s sr waiting time =
       record {
         memories = m;
         control = record {
@@ -56,6 +61,7 @@ module _ (e : Seen) (frame : List ℕ) (m : Memories) (k : Control) (b c : ℕ) 
           sr = sr;
           view = k .view;
           standby = k .standby;
+          time = time;
         };
         frame = frame;
       }
@@ -65,18 +71,18 @@ module _ (e : Seen) (frame : List ℕ) (m : Memories) (k : Control) (b c : ℕ) 
   size r = countNamed wide (k .view) (m .text) r
 
   text-left : (a : ℕ) (h : a < 256) → 0x80 ≤ a →
-      does (board e) (from false (k .entry .s) (k .sr) (k .place .waiting)) (instruction a h ∷ datum b p ∷ datum c q ∷ []) .memories
+      does (board e) (from false (k .entry .s) (k .sr) (k .place .waiting) noTime) (instruction a h ∷ datum b p ∷ datum c q ∷ []) .memories
       ≡ withTextWord (bits5-0 a) b c m
-  unfolding does performed carriedOut executed written stored obeyed moved movedOn
+  unfolding does performed onTime carriedOut executed written stored obeyed moved movedOn
   text-left a h low = rw (says-text (k .sr) (k .place .target) a low h)
 
   text-counted : (z : Bool) (a : ℕ) (h : a < 256) → 0x80 ≤ a →
-      itemCounts e (from false z (k .sr) (k .place .waiting)) (instruction a h ∷ datum b p ∷ datum c q ∷ [])
+      itemCounts e (from false z (k .sr) (k .place .waiting) noTime) (instruction a h ∷ datum b p ∷ datum c q ∷ [])
       ≡ allIf (k .standby) (size (Cells (counterCell (k .place)) (Word (bits5-0 a))))
       ∷ size (Cells (Word (bits5-0 a)) Nowhere)
       ∷ allIf z (size (Cells (Word (bits5-0 a)) (Word (stepped (k .entry .id) (bits5-0 a)))))
       ∷ []
-  unfolding itemCounts performed carriedOut executed written stored obeyed moved movedOn instructionNames writeNames countNamed named covers
+  unfolding itemCounts performed onTime carriedOut executed written stored obeyed moved movedOn instructionNames writeNames countNamed named covers
   text-counted false a h low =
       let first = waking (k .view) (m .text) (k .standby) (Cells (counterCell (k .place)) (Word (bits5-0 a))) in
       let word = size (Cells (Word (bits5-0 a)) Nowhere) in
@@ -88,49 +94,79 @@ module _ (e : Seen) (frame : List ℕ) (m : Memories) (k : Control) (b c : ℕ) 
       rw (says-text (k .sr) (k .place .target) a low h, count-all 1024 (λ i. true) (λ i h. refl)) (ap (λ (n : ℕ). n ∷ word ∷ 1024 ∷ []) first)
 
   glyph-left : (a : ℕ) (h : a < 256) → 0x40 ≤ a → a < 0x80 →
-      does (board e) (from false (k .entry .s) false (k .place .waiting)) (instruction a h ∷ datum b p ∷ datum c q ∷ []) .memories
+      does (board e) (from false (k .entry .s) false (k .place .waiting) noTime) (instruction a h ∷ datum b p ∷ datum c q ∷ []) .memories
       ≡ withGlyphWord (bits5-0 a) b c m
-  unfolding does performed carriedOut executed written stored obeyed moved movedOn
+  unfolding does performed onTime carriedOut executed written stored obeyed moved movedOn
   glyph-left a h low high = rw (says-glyph (k .place .target) a low high)
 
   glyph-counted : (a : ℕ) (h : a < 256) → 0x40 ≤ a → a < 0x80 →
-      itemCounts e (from false (k .entry .s) false (k .place .waiting)) (instruction a h ∷ datum b p ∷ datum c q ∷ [])
+      itemCounts e (from false (k .entry .s) false (k .place .waiting) noTime) (instruction a h ∷ datum b p ∷ datum c q ∷ [])
       ≡ allIf (k .standby) (size (Cells (counterCell (k .place)) Nowhere))
       ∷ size (GlyphHalf (bits5-0 a) false)
       ∷ size (GlyphHalf (bits5-0 a) true)
       ∷ []
-  unfolding itemCounts performed carriedOut executed written stored obeyed moved movedOn instructionNames writeNames
+  unfolding itemCounts performed onTime carriedOut executed written stored obeyed moved movedOn instructionNames writeNames
   glyph-counted a h low high =
       let more = size (GlyphHalf (bits5-0 a) false) ∷ size (GlyphHalf (bits5-0 a) true) ∷ [] in
       rw (says-glyph (k .place .target) a low high)
       (ap (λ (n : ℕ). n ∷ more) (waking (k .view) (m .text) (k .standby) (Cells (counterCell (k .place)) Nowhere)))
 
+  -- the boards after the row, and after the column
+  abbrev rowSet : ℕ → Board
+  rowSet y =
+      let start : Board = from true (k .entry .s) (k .sr) Nothing noTime in
+      boardAfter e start (obeyedActed m (start .control) (GraphicAddress (bits5-0 y)))
+
+  abbrev columnSet : ℕ → ℕ → Board
+  columnSet y x = boardAfter e (rowSet y) (obeyedActed m (rowSet y .control) (GraphicAddress (bits5-0 x)))
+
+  set-row : (y : ℕ) (h : y < 256) → 0x80 ≤ y →
+      let start : Board = from true (k .entry .s) (k .sr) Nothing noTime in
+      performed m (start .control) (deed (instruction y h)) ≡ obeyedActed m (start .control) (GraphicAddress (bits5-0 y))
+  unfolding performed carriedOut executed
+  set-row y h low =
+      let start : Board = from true (k .entry .s) (k .sr) Nothing noTime in
+      calm m (start .control) (Instruct y) ∙ ap (obeyedActed m (start .control)) (says-graphic (k .sr) (k .place .target) y low h)
+
+  set-column : (y x : ℕ) (i : x < 256) → 0x80 ≤ x →
+      performed m (rowSet y .control) (deed (instruction x i)) ≡ obeyedActed m (rowSet y .control) (GraphicAddress (bits5-0 x))
+  unfolding performed carriedOut executed obeyed
+  set-column y x i low =
+      calm m (rowSet y .control) (Instruct x) ∙ ap (obeyedActed m (rowSet y .control)) (says-graphic (k .sr) (k .place .target) x low i)
+
   graphic-left : (y x : ℕ) (h : y < 256) (i : x < 256) → 0x80 ≤ y → 0x80 ≤ x →
-      does (board e) (from true (k .entry .s) (k .sr) Nothing) (instruction y h ∷ instruction x i ∷ datum b p ∷ datum c q ∷ []) .memories
+      does (board e) (from true (k .entry .s) (k .sr) Nothing noTime) (instruction y h ∷ instruction x i ∷ datum b p ∷ datum c q ∷ []) .memories
       ≡ withGraphicWord (bits5-0 y) (bits3-0 x) b c m
-  unfolding does performed carriedOut executed written stored obeyed moved movedOn
+  unfolding does performed onTime carriedOut written stored obeyed moved movedOn
   graphic-left y x h i low low' =
       let row : bits5-0 (bits5-0 y) ≡ bits5-0 y = omega arith in
       let column : bits3-0 (bits5-0 x) ≡ bits3-0 x = omega arith in
-      rw (says-graphic (k .sr) (k .place .target) y low h, says-graphic (k .sr) (k .place .target) x low' i, row, column)
+      let start = from true (k .entry .s) (k .sr) Nothing noTime in
+      ap (λ (a : Acted). does (board e) (boardAfter e start a) (instruction x i ∷ datum b p ∷ datum c q ∷ []) .memories) (set-row y h low)
+      ∙ ap (λ (a : Acted). does (board e) (boardAfter e (rowSet y) a) (datum b p ∷ datum c q ∷ []) .memories) (set-column y x i low')
+      ∙ rw (row, column)
 
   graphic-counted : (y x : ℕ) (h : y < 256) (i : x < 256) → 0x80 ≤ y → 0x80 ≤ x →
-      itemCounts e (from true (k .entry .s) (k .sr) Nothing) (instruction y h ∷ instruction x i ∷ datum b p ∷ datum c q ∷ [])
+      itemCounts e (from true (k .entry .s) (k .sr) Nothing noTime) (instruction y h ∷ instruction x i ∷ datum b p ∷ datum c q ∷ [])
       ≡ allIf (k .standby) 0
       ∷ size (Cells (counterCell (k .place)) Nowhere)
       ∷ size (GraphicHalf (bits5-0 y) (bits3-0 x) false)
       ∷ size (GraphicHalf (bits5-0 y) (bits3-0 x) true)
       ∷ []
-  unfolding itemCounts performed carriedOut executed written stored obeyed moved movedOn instructionNames writeNames
+  unfolding itemCounts performed onTime carriedOut written stored obeyed moved movedOn instructionNames writeNames
   graphic-counted y x h i low low' =
       let row : bits5-0 (bits5-0 y) ≡ bits5-0 y = omega arith in
       let column : bits3-0 (bits5-0 x) ≡ bits3-0 x = omega arith in
+      let start = from true (k .entry .s) (k .sr) Nothing noTime in
       let more =
       size (Cells (counterCell (k .place)) Nowhere)
       ∷ size (GraphicHalf (bits5-0 y) (bits3-0 x) false)
       ∷ size (GraphicHalf (bits5-0 y) (bits3-0 x) true)
       ∷ [] in
-      rw (says-graphic (k .sr) (k .place .target) y low h, says-graphic (k .sr) (k .place .target) x low' i, row, column)
+      ap (λ (a : Acted). countOf a ∷ itemCounts e (boardAfter e start a) (instruction x i ∷ datum b p ∷ datum c q ∷ [])) (set-row y h low)
+      ∙ ap (λ (a : Acted). countOf (obeyedActed m (start .control) (GraphicAddress (bits5-0 y))) ∷ countOf a ∷ itemCounts e (boardAfter e (rowSet y) a) (datum b p ∷ datum c q ∷ []))
+      (set-column y x i low')
+      ∙ rw (row, column)
       (ap (λ (n : ℕ). n ∷ more)
       (waking (k .view) (m .text) (k .standby) region.Nothing
       ∙ ap (λ (n : ℕ). if k .standby then 1024 else n) (none-counted (k .view) (m .text))))
@@ -149,11 +185,11 @@ sets-width serial list h = tt
 module _ (e : Seen) (way : Way) (s : State) (frame : List ℕ) (b c : ℕ) (p : b < 256) (q : c < 256) (begins : Begins e way s frame) where
   received : (list : List WholeWrite) → ((dl : Bool) → SetsDl dl list) → ReceivedAsGiven e way s frame (items list)
   received list sets =
-      writes-are-received e way s frame (items list) (begins .fits) (begins .idle)
+      writes-are-received e way s frame (items list) (begins .fits) (begins .idle) (writes-timely (s .control) list)
       (function-sets-keep-dl e way s frame list (begins .width) (sets-width way list sets))
 
-  abbrev own : Bool → Bool → Bool → Waiting → Board
-  own re shifts sr waiting = from e frame (s .memories) (s .control) b c p q re shifts sr waiting
+  abbrev own : Bool → Bool → Bool → Waiting → Time → Board
+  own re shifts sr waiting time = from e frame (s .memories) (s .control) b c p q re shifts sr waiting time
 
   -- the writes of a word after an address
   abbrev word : (a : ℕ) → a < 256 → List Item
@@ -182,17 +218,23 @@ module _ (e : Seen) (way : Way) (s : State) (frame : List ℕ) (b c : ℕ) (p : 
   abbrev flags : Control
   flags = s .control
 
+  -- the board as it is, but for its time
+  abbrev withOwn : Time → Board
+  withOwn t = own (flags .function .re) (flags .entry .s) (flags .sr) (flags .place .waiting) t
+
   text-stored : (a : ℕ) (h : a < 256) → s .control .function .re ≡ false → 0x80 ≤ a →
       Stores e way s frame (word a h) (withTextWord (bits5-0 a) b c (s .memories)) (textSizes s (bits5-0 a))
   text-stored a h re low =
       record {
         memories =
             ap (λ (x : Stands). x .state .memories) (word-received a h (omega arith) .stands)
-            ∙ ap (λ (x : Bool). left (word a h) (own x (flags .entry .s) (flags .sr) (flags .place .waiting))) re
+            ∙ ap (λ (t : Time). left (word a h) (withOwn t)) (begins .untimed)
+            ∙ ap (λ (x : Bool). left (word a h) (own x (flags .entry .s) (flags .sr) (flags .place .waiting) noTime)) re
             ∙ text-left e frame (s .memories) flags b c p q a h low;
         counts =
             word-received a h (omega arith) .sums
-            ∙ ap (λ (x : Bool). itemCounts e (own x (flags .entry .s) (flags .sr) (flags .place .waiting)) (word a h)) re
+            ∙ ap (λ (t : Time). itemCounts e (withOwn t) (word a h)) (begins .untimed)
+            ∙ ap (λ (x : Bool). itemCounts e (own x (flags .entry .s) (flags .sr) (flags .place .waiting) noTime) (word a h)) re
             ∙ text-counted e frame (s .memories) flags b c p q (flags .entry .s) a h low;
       }
 
@@ -202,13 +244,15 @@ module _ (e : Seen) (way : Way) (s : State) (frame : List ℕ) (b c : ℕ) (p : 
       record {
         memories =
             ap (λ (x : Stands). x .state .memories) (word-received a h low .stands)
-            ∙ ap (λ (x : Bool). left (word a h) (own x (flags .entry .s) (flags .sr) (flags .place .waiting))) re
-            ∙ ap (λ (x : Bool). left (word a h) (own false (flags .entry .s) x (flags .place .waiting))) sr
+            ∙ ap (λ (t : Time). left (word a h) (withOwn t)) (begins .untimed)
+            ∙ ap (λ (x : Bool). left (word a h) (own x (flags .entry .s) (flags .sr) (flags .place .waiting) noTime)) re
+            ∙ ap (λ (x : Bool). left (word a h) (own false (flags .entry .s) x (flags .place .waiting) noTime)) sr
             ∙ glyph-left e frame (s .memories) flags b c p q a h low high;
         counts =
             word-received a h low .sums
-            ∙ ap (λ (x : Bool). itemCounts e (own x (flags .entry .s) (flags .sr) (flags .place .waiting)) (word a h)) re
-            ∙ ap (λ (x : Bool). itemCounts e (own false (flags .entry .s) x (flags .place .waiting)) (word a h)) sr
+            ∙ ap (λ (t : Time). itemCounts e (withOwn t) (word a h)) (begins .untimed)
+            ∙ ap (λ (x : Bool). itemCounts e (own x (flags .entry .s) (flags .sr) (flags .place .waiting) noTime) (word a h)) re
+            ∙ ap (λ (x : Bool). itemCounts e (own false (flags .entry .s) x (flags .place .waiting) noTime) (word a h)) sr
             ∙ glyph-counted e frame (s .memories) flags b c p q a h low high;
       }
 
@@ -218,13 +262,15 @@ module _ (e : Seen) (way : Way) (s : State) (frame : List ℕ) (b c : ℕ) (p : 
       record {
         memories =
             ap (λ (x : Stands). x .state .memories) (graphic-received y x h i (omega arith) (omega arith) .stands)
-            ∙ ap (λ (r : Bool). left (graphicWord y x h i) (own r (flags .entry .s) (flags .sr) (flags .place .waiting))) re
-            ∙ ap (λ (w : Waiting). left (graphicWord y x h i) (own true (flags .entry .s) (flags .sr) w)) waits
+            ∙ ap (λ (t : Time). left (graphicWord y x h i) (withOwn t)) (begins .untimed)
+            ∙ ap (λ (r : Bool). left (graphicWord y x h i) (own r (flags .entry .s) (flags .sr) (flags .place .waiting) noTime)) re
+            ∙ ap (λ (w : Waiting). left (graphicWord y x h i) (own true (flags .entry .s) (flags .sr) w noTime)) waits
             ∙ graphic-left e frame (s .memories) flags b c p q y x h i low low';
         counts =
             graphic-received y x h i (omega arith) (omega arith) .sums
-            ∙ ap (λ (r : Bool). itemCounts e (own r (flags .entry .s) (flags .sr) (flags .place .waiting)) (graphicWord y x h i)) re
-            ∙ ap (λ (w : Waiting). itemCounts e (own true (flags .entry .s) (flags .sr) w) (graphicWord y x h i)) waits
+            ∙ ap (λ (t : Time). itemCounts e (withOwn t) (graphicWord y x h i)) (begins .untimed)
+            ∙ ap (λ (r : Bool). itemCounts e (own r (flags .entry .s) (flags .sr) (flags .place .waiting) noTime) (graphicWord y x h i)) re
+            ∙ ap (λ (w : Waiting). itemCounts e (own true (flags .entry .s) (flags .sr) w noTime) (graphicWord y x h i)) waits
             ∙ graphic-counted e frame (s .memories) flags b c p q y x h i low low';
       }
 

@@ -4,7 +4,7 @@ use Rattle.calls.specs.State.{State}
 use Rattle.panel.specs.declared.Panel.{Panel}
 use Rattle.playback.specs.declared.Stop.{Stop}
 use Rattle.playback.specs.Transcript.{Told}
-use Rattle.demands.specs.Tight.{Contract, Tight, PublicCall, contractOf, fresh, call, draw, lentCall, send, read, recordAt, answerNumber, readerOver, readerStep}
+use Rattle.demands.specs.Tight.{Contract, Tight, PublicCall, contractOf, fresh, call, draw, lentCall, send, read, recordAt, answerNumber, answerTakenWith, readerOver, readerStep}
 use Rattle.demands.specs.Tight.{replay, transcribe, putLast, exportedDraw, exportedSend, exportedReplay, braille, plain, pbm}
 
 -- the panel of a state
@@ -55,6 +55,7 @@ tight send = tight-by (contractOf send) (λ d. record { result = d .number; buff
 tight read = tight-by (contractOf read) (λ x. x) (λ x. refl)
 tight recordAt = tight-by (contractOf recordAt) (λ x. x) (λ x. refl)
 tight answerNumber = tight-by (contractOf answerNumber) (λ x. x) (λ x. refl)
+tight answerTakenWith = tight-by (contractOf answerTakenWith) (λ x. x) (λ x. refl)
 tight readerOver = tight-by (contractOf readerOver) (λ x. x) (λ x. refl)
 tight readerStep = tight-by (contractOf readerStep) (λ x. x) (λ x. refl)
 tight replay = tight-by (contractOf replay) (λ k. record { result = stopOf k; buffer = k .ending .frame }) (λ x. refl)

@@ -1,7 +1,7 @@
 -- Document 01, "Links": the sender and the same state over all links, in the panel's own calls, frame and counts included.
 -- Each statement is proved in proofs/, under its own name in small letters (`SentIsReceived` as `sent-is-received`).
 use Prim.Native.Nat.{ℕ}
-use mathlib.Core.Bool.{true}
+use mathlib.Core.Bool.{true, false}
 use mathlib.Core.List.{List}
 use mathlib.Core.Path.{_≡_}
 use lib.ListN.{length, replicate}
@@ -12,8 +12,8 @@ use Rattle.connector.specs.Items.{WholeWrite, Item, Way, serial, wires, idleOn,
 use Rattle.connector.specs.Connector.{Came, Comes, elsewhere, comes, eventAt, KeepsDl}
 use Rattle.picture.specs.Picture.{Seen}
 use Rattle.calls.specs.State.{State}
-use Rattle.calls.specs.Calls.{Called, refused, Fits, called, afterCalls}
-use Rattle.demands.specs.Wires.{numbersOf, countsOf, Board, boardOf, board, given, itemCounts, atLast, sumsOf, onLink, standing, items, withDl, HasWidth, SetsWidth}
+use Rattle.calls.specs.Calls.{Called, refused, timeless, Fits, called, afterCalls}
+use Rattle.demands.specs.Wires.{numbersOf, countsOf, Board, boardOf, board, given, itemCounts, atLast, sumsOf, onLink, standing, Timely, items, withDl, HasWidth, SetsWidth}
 
 -- an accepted call leaves this board on its link, with its frame, and answers with this reply
 pub record Does (k : Called) (o : Came Board) : Type 0 where
@@ -26,12 +26,13 @@ abbrev pub DoesBy : Called → State → List ℕ → Comes (Came Board) → Typ
 DoesBy k s frame elsewhere = k ≡ refused s frame 5
 DoesBy k s frame (comes o) = Does k o
 
--- 0. `board` is the panel: each call, a read too, does what the links' connector does with its event. So what holds of any controller
--- at the end of a link holds of the panel.
+-- 0. `board` is the panel: each call, a read too, does what the links' connector does with its event, unless it is refused for want of
+-- time. So what holds of any controller at the end of a link holds of the panel.
 abbrev pub CallIsConnected : Type 0
 CallIsConnected =
     (e : Seen) (b : Board) (link : Link) (event : Event)
     → Fits e (b .frame)
+    → timeless (b .control) event ≡ false
     → DoesBy (called e (onLink b link) (b .frame) event) (onLink b link) (b .frame) (eventAt (board e) (record { state = b; link = link }) event)
 
 -- the calls that carry these items are received as the items given
@@ -45,12 +46,14 @@ pub record ReceivedAsGiven (e : Seen) (way : Way) (s : State) (frame : List ℕ)
   -- so the sum of its calls' counts is the item's count
   pub sums : sumsOf e way s frame list ≡ itemCounts e (boardOf s frame) list
 
--- 1. Any number of the sender's writes, begun on an idle serial link with chip select high, is received as the bytes given.
+-- 1. Any number of the sender's writes, begun on an idle serial link with chip select high, is received as the bytes given; time may pass
+-- between them.
 abbrev pub SentIsReceived : Type 0
 SentIsReceived =
     (e : Seen) (s : State) (frame : List ℕ) (list : List Item)
     → Fits e frame
     → s .link ≡ idleOn serial
+    → Timely (s .control) list
     → ReceivedAsGiven e serial s frame list
 
 -- The same of every way, where the items keep the link's DL: 1 for bytes, 0 for half bytes, either for serial.
@@ -59,6 +62,7 @@ WritesAreReceived =
     (e : Seen) (way : Way) (s : State) (frame : List ℕ) (list : List Item)
     → Fits e frame
     → s .link ≡ idleOn way
+    → Timely (s .control) list
     → KeepsDl (board e) way (boardOf s frame) list
     → ReceivedAsGiven e way s frame list
 
@@ -77,7 +81,8 @@ pub record Agree (e : Seen) (way other : Way) (s t : State) (frame : List ℕ) (
   pub sums : sumsOf e way s frame list ≡ sumsOf e other t frame others
 
 -- 2. The same state over all links: begin equal apart from link and DL, links idle; the lists are equal except bit 4 of function
--- sets, which keeps each link's DL. Any two of the three ways agree; half bytes with anything in bits 3..0.
+-- sets, which keeps each link's DL. Any two of the three ways agree; half bytes with anything in bits 3..0. With time all lose the same
+-- writes, since time passes between whole writes alone.
 abbrev pub LinksAgree : Type 0
 LinksAgree =
     (e : Seen) (way other : Way) (s t : State) (frame : List ℕ) (list others : List Item)
@@ -86,6 +91,7 @@ LinksAgree =
     → t .link ≡ idleOn other
     → SameButLinkAndDl s t
     → Alike list others
+    → Timely (s .control) list
     → KeepsDl (board e) way (boardOf s frame) list
     → KeepsDl (board e) other (boardOf t frame) others
     → Agree e way other s t frame list others

@@ -9,22 +9,23 @@ use mathlib.Core.Path.{_≡_}
 use lib.ListN.{length, take, drop, replicate, getD}
 use Rattle.controller.specs.declared.Control.{Control}
 use Rattle.controller.specs.Memories.{Memories}
+use Rattle.events.specs.declared.Made.{Made}
 use Rattle.events.specs.declared.Event.{Event}
-use Rattle.events.specs.declared.Event.the-variants.{Transfer, Bit, SelectLow, Reset}
+use Rattle.events.specs.declared.Event.the-variants.{Transfer, Bit, SelectLow, Reset, Pass}
 use Rattle.links.specs.declared.Link.{Link}
 use Rattle.links.specs.declared.Link.the-variants.{Parallel, Serial}
 use Rattle.links.specs.Sender.{sent, leaving}
 use Rattle.picture.specs.Picture.{Seen}
 use Rattle.picture.specs.Refusals.{drawn, drawing}
 use Rattle.calls.specs.State.{State}
-use Rattle.calls.specs.Calls.{called, refused, afterCalls}
+use Rattle.calls.specs.Calls.{timeless, called, refused, afterCalls}
 use Rattle.demands.specs.Wires.{numbersOf}
 use Rattle.capture.specs.declared.Answer.{Answer}
 use Rattle.capture.specs.declared.Answer.the-variants.{Record, Refused, End}
 use Rattle.capture.specs.Record.{kindByte, valueByte, readFirst, number}
-use Rattle.capture.specs.Capture.{Recorded, contents}
+use Rattle.capture.specs.Capture.{Recorded, takenWith}
 use Rattle.printed.specs.Text.{RecordAnswer, lines, longestLine}
-use Rattle.playback.specs.Replay.{Replayed, halted, Room, endless, bytes, replayed}
+use Rattle.playback.specs.Replay.{Replayed, halted, Room, endless, bytes, readBy, replayed}
 use Rattle.playback.specs.Transcript.{told, transcribed}
 use Rattle.playback.specs.Statements.{PartsReplayAsWhole, PartsTranscribeAsWhole, RoomTellsAll}
 use Rattle.boundary.specs.Report.{report, freshReplay}
@@ -40,15 +41,17 @@ GoodHalfFont e = length (e .fonts .half) ≡ 2048
 abbrev pub GoodFullFont : Seen → Type 0
 GoodFullFont e = (length (e .fonts .full) % 32 ≡ 0) × (length (e .fonts .full) ≤ 267264)
 
--- The table of refusal numbers, "when, and only then", in its order; `other` says whether the call is of the other link.
-pub data TableSays (e : Seen) (frame : List ℕ) (other : Bool) : ℕ → Type 0 where
-  frameLength : (GoodFrame frame → ⊥) → TableSays e frame other 1
-  halfFontLength : GoodFrame frame → (GoodHalfFont e → ⊥) → TableSays e frame other 2
-  fullFontLength : GoodFrame frame → GoodHalfFont e → (GoodFullFont e → ⊥) → TableSays e frame other 3
-  otherLink : GoodFrame frame → GoodHalfFont e → GoodFullFont e → other ≡ true → TableSays e frame other 5
-  allGood : GoodFrame frame → GoodHalfFont e → GoodFullFont e → other ≡ false → TableSays e frame other 0
+-- The table of refusal numbers, "when, and only then", in its order; `wants` says whether the call lets time pass on a panel that has
+-- none, `other` whether it is of the other link.
+pub data TableSays (e : Seen) (frame : List ℕ) (wants other : Bool) : ℕ → Type 0 where
+  frameLength : (GoodFrame frame → ⊥) → TableSays e frame wants other 1
+  halfFontLength : GoodFrame frame → (GoodHalfFont e → ⊥) → TableSays e frame wants other 2
+  fullFontLength : GoodFrame frame → GoodHalfFont e → (GoodFullFont e → ⊥) → TableSays e frame wants other 3
+  wantOfTime : GoodFrame frame → GoodHalfFont e → GoodFullFont e → wants ≡ true → TableSays e frame wants other 8
+  otherLink : GoodFrame frame → GoodHalfFont e → GoodFullFont e → wants ≡ false → other ≡ true → TableSays e frame wants other 5
+  allGood : GoodFrame frame → GoodHalfFont e → GoodFullFont e → wants ≡ false → other ≡ false → TableSays e frame wants other 0
 
--- transfers are of the parallel link, serial bits and select-low of the serial one; reset is of both
+-- transfers are of the parallel link, serial bits and select-low of the serial one; reset is of both, and time passes on both
 abbrev pub isSerial : Link → Bool
 isSerial (Parallel pairing) = false
 isSerial (Serial receiver) = true
@@ -58,20 +61,21 @@ ofOtherLink link (Transfer t) = isSerial link
 ofOtherLink link (Bit b) = not (isSerial link)
 ofOtherLink link SelectLow = not (isSerial link)
 ofOtherLink link (Reset pin) = false
+ofOtherLink link (Pass eights) = false
 
 -- of the calls of a record the first decides
 abbrev pub firstOfOtherLink : Link → List Event → Bool
 firstOfOtherLink link [] = false
 firstOfOtherLink link (call ∷ calls) = ofOtherLink link call
 
--- a transfer, bit, select-low or reset: its number is the table's, and a refused one leaves state and frame, with reply 0 and count 0
+-- a transfer, bit, select-low, reset or pass: its number is the table's, and a refused one leaves state and frame, with reply 0 and count 0
 pub record CallRefuses (e : Seen) (s : State) (frame : List ℕ) (call : Event) : Type 0 where
-  pub says : TableSays e frame (ofOtherLink (s .link) call) (called e s frame call .number)
+  pub says : TableSays e frame (timeless (s .control) call) (ofOtherLink (s .link) call) (called e s frame call .number)
   pub keeps : called e s frame call .number ≢ 0 → called e s frame call ≡ refused s frame (called e s frame call .number)
 
 -- drawing afresh takes frame and fonts, on either link
 pub record DrawRefuses (e : Seen) (m : Memories) (c : Control) (frame : List ℕ) : Type 0 where
-  pub says : TableSays e frame false (drawn e m c frame .number)
+  pub says : TableSays e frame false false (drawn e m c frame .number)
   pub keeps : drawn e m c frame .number ≢ 0 → drawn e m c frame ≡ drawing (drawn e m c frame .number) frame
 
 -- the sender: 4 where its buffer is under 3 bytes
@@ -93,14 +97,24 @@ pub record Allowed (kind value : ℕ) : Type 0 where
   pub selectLow : kind ≡ 5 → value ≡ 0
   pub reset : kind ≡ 6 → value ≤ 1
 
--- what stands at the beginning of a capture, with its number: 6 to 9 in their order; 0 for the end, and for a record
-pub data RecordSays (c : List ℕ) : Answer → ℕ → Type 0 where
-  remain : 1 ≤ length c → length c ≤ 3 → RecordSays c (Refused 6) 6
-  mark : 4 ≤ length c → (Marked c → ⊥) → RecordSays c (Refused 7) 7
-  kind : 4 ≤ length c → Marked c → 6 < kindByte c → RecordSays c (Refused 8) 8
-  value : 4 ≤ length c → Marked c → kindByte c ≤ 6 → (Allowed (kindByte c) (valueByte c) → ⊥) → RecordSays c (Refused 9) 9
-  end : length c ≡ 0 → RecordSays c End 0
-  good : 4 ≤ length c → Marked c → kindByte c ≤ 6 → Allowed (kindByte c) (valueByte c) → RecordSays c (Record (kindByte c) (valueByte c)) 0
+-- with time, kinds go to 7, without to 6
+abbrev pub lastKind : Bool → ℕ
+lastKind true = 7
+lastKind false = 6
+
+-- what stands at the beginning of a capture, to a panel with or without time, with its number: 6 to 9 in their order; 0 for the end, and
+-- for a record
+pub data RecordSays (time : Bool) (c : List ℕ) : Answer → ℕ → Type 0 where
+  remain : 1 ≤ length c → length c ≤ 3 → RecordSays time c (Refused 6) 6
+  mark : 4 ≤ length c → (Marked c → ⊥) → RecordSays time c (Refused 7) 7
+  kind : 4 ≤ length c → Marked c → lastKind time < kindByte c → RecordSays time c (Refused 8) 8
+  value : 4 ≤ length c → Marked c → kindByte c ≤ lastKind time → (Allowed (kindByte c) (valueByte c) → ⊥) → RecordSays time c (Refused 9) 9
+  end : length c ≡ 0 → RecordSays time c End 0
+  good : 4 ≤ length c
+      → Marked c
+      → kindByte c ≤ lastKind time
+      → Allowed (kindByte c) (valueByte c)
+      → RecordSays time c (Record (kindByte c) (valueByte c)) 0
 
 -- "when, and only then": a table gives one number alone
 abbrev pub OneNumber : (ℕ → Type 0) → Type 0
@@ -140,26 +154,26 @@ pub data StopsAt (rs : List Recorded) (behind : ℕ) (room : Room) (place : ℕ)
 -- one has no effect
 pub record ReplayStops (e : Seen) (room : Room) (capture : List ℕ) (s : State) (frame : List ℕ) (place : ℕ) (r : Replayed) : Type 0 where
   -- refused as a call before anything is read: nothing changes, and nothing is answered
-  pub refused : (n : ℕ) → TableSays e frame false n → n ≢ 0 → r ≡ halted s frame place n false
+  pub refused : (n : ℕ) → TableSays e frame false false n → n ≢ 0 → r ≡ halted s frame place n false
   -- else it stops at the first record that is refused, or behind the last; each record before that has answered
   pub counts : r .ending .place ≡ place + length (r .answers)
   pub stops :
-      TableSays e frame false 0
-      → StopsAt (contents capture .records) (number (contents capture .stop)) room place (r .answers) (r .ending .number) (r .ending .full) (r .ending .state .link)
+      TableSays e frame false false 0
+      → StopsAt (readBy s capture .records) (number (readBy s capture .stop)) room place (r .answers) (r .ending .number) (r .ending .full) (r .ending .state .link)
   -- every call of these records is accepted
   pub accepted :
-      TableSays e frame false 0
-      → let calls : List Event = callsOfAll (take (length (r .answers)) (contents capture .records)) in
+      TableSays e frame false false 0
+      → let calls : List Event = callsOfAll (take (length (r .answers)) (readBy s capture .records)) in
       numbersOf e s frame calls ≡ replicate (length calls) 0
   -- the state and the frame are what these calls leave
   pub stands :
-      TableSays e frame false 0
+      TableSays e frame false false 0
       → record { state = r .ending .state; frame = r .ending .frame }
-      ≡ afterCalls e s frame (callsOfAll (take (length (r .answers)) (contents capture .records)))
+      ≡ afterCalls e s frame (callsOfAll (take (length (r .answers)) (readBy s capture .records)))
   -- and the answers are theirs: of each record its kind, its call's reply, and the sum of its calls' counts
   pub answers :
-      TableSays e frame false 0
-      → r .answers ≡ answersOf e s frame (take (length (r .answers)) (contents capture .records))
+      TableSays e frame false false 0
+      → r .answers ≡ answersOf e s frame (take (length (r .answers)) (readBy s capture .records))
 
 -- the printed transcript is such a replay, whose lines have the buffer as their room: the lines of all its answers, in their order, stand
 -- at the beginning of the buffer, and all else in it is as it was
@@ -177,22 +191,22 @@ NeverFull =
 abbrev pub TranscriptRefuses : Type 0
 TranscriptRefuses =
     (e : Seen) (capture : List ℕ) (s : State) (frame : List ℕ) (place : ℕ) (text : List ℕ) (n : ℕ)
-    → TableSays e frame false n
+    → TableSays e frame false false n
     → n ≢ 0
     → transcribed e capture s frame place text ≡ record { ending = halted s frame place n false .ending; reply = 0; count = 0; text = text; filled = 0 }
 
 abbrev pub ExportedReplayRefuses : Type 0
 ExportedReplayRefuses =
-    (parallel : Bool) (e : Seen) (capture frame state last : List ℕ) (n : ℕ)
-    → TableSays e frame false n
+    (made : Made) (e : Seen) (capture frame state last : List ℕ) (n : ℕ)
+    → TableSays e frame false false n
     → n ≢ 0
-    → freshReplay parallel e capture frame state last ≡ report n frame state last
+    → freshReplay made e capture frame state last ≡ report n frame state last
 
 pub record Demand1 : Type 0 where
   pub calls : (e : Seen) (s : State) (frame : List ℕ) (call : Event) → CallRefuses e s frame call
   pub draws : (e : Seen) (m : Memories) (c : Control) (frame : List ℕ) → DrawRefuses e m c frame
   pub sends : (register : Bool) (byte : ℕ) (buffer : List ℕ) → SendRefuses register byte buffer
-  pub captures : (c : List ℕ) → RecordSays c (readFirst c) (number (readFirst c))
+  pub captures : (time : Bool) (c : List ℕ) → RecordSays time c (takenWith time (readFirst c)) (number (takenWith time (readFirst c)))
   -- of every replay, and so of `replay` and of `transcribe`
   pub replays :
       (e : Seen) (room : Room) (capture : List ℕ) (s : State) (frame : List ℕ) (place : ℕ)
@@ -206,6 +220,6 @@ pub record Demand1 : Type 0 where
   -- and 29 bytes for each record are room enough for all of it
   pub tellsAll : RoomTellsAll
   pub exportedReplays : ExportedReplayRefuses
-  pub oneNumberForCalls : (e : Seen) (frame : List ℕ) (other : Bool) → OneNumber (TableSays e frame other)
+  pub oneNumberForCalls : (e : Seen) (frame : List ℕ) (wants other : Bool) → OneNumber (TableSays e frame wants other)
   pub oneNumberForSends : (buffer : List ℕ) → OneNumber (SenderSays buffer)
-  pub oneAnswerForRecords : (c : List ℕ) → OneAnswer (RecordSays c)
+  pub oneAnswerForRecords : (time : Bool) (c : List ℕ) → OneAnswer (RecordSays time c)

@@ -12,7 +12,7 @@ use Rattle.controller.specs.declared.Control.{Control}
 use Rattle.controller.specs.Memories.{Memories}
 use Rattle.events.specs.declared.Event.{Event}
 use Rattle.events.specs.declared.Pin.{Pin}
-use Rattle.events.specs.declared.Event.the-variants.{Transfer, Bit, SelectLow, Reset}
+use Rattle.events.specs.declared.Event.the-variants.{Transfer, Bit, SelectLow, Reset, Pass}
 use Rattle.events.specs.declared.Transfer.the-variants.{Instruct, Write, Status, Read}
 use Rattle.serial.specs.declared.Receiver.{Receiver}
 use Rattle.links.specs.declared.Link.the-variants.{Serial}
@@ -73,6 +73,7 @@ isRead (Transfer Read) = true
 isRead (Bit b) = false
 isRead SelectLow = false
 isRead (Reset pin) = false
+isRead (Pass eights) = false
 
 -- The reply is 0 unless the call reads.
 abbrev pub RepliesToReads : Type 0

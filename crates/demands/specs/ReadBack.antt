@@ -11,7 +11,7 @@ use Rattle.events.specs.declared.Event.{Event}
 use Rattle.picture.specs.Picture.{Seen}
 use Rattle.calls.specs.State.{State, Valid}
 use Rattle.calls.specs.Calls.{Fits}
-use Rattle.demands.specs.Wires.{answers}
+use Rattle.demands.specs.Wires.{answers, noTime}
 use Rattle.demands.specs.Demand1.{isSerial}
 use Rattle.demands.specs.Readings.{instruct, writeData, readStatus, readData}
 
@@ -42,12 +42,14 @@ bothRead address counter next b c =
     replicate (length address) 0
     ++ (counter ∷ 0 ∷ counter ∷ 0 ∷ next ∷ (replicate (length address) 0 ++ (0 ∷ b ∷ c ∷ next ∷ [])))
 
--- a valid state on the parallel link with DL = 1, and frame and fonts that fit
+-- a valid state without time on the parallel link with DL = 1, and frame and fonts that fit (with time a meter that waits is served alike:
+-- `WaitingIsServed`)
 pub record TakesBytes (e : Seen) (s : State) (frame : List ℕ) : Type 0 where
   pub valid : Valid s
   pub fits : Fits e frame
   pub parallel : isSerial (s .link) ≡ false
   pub wide : s .control .function .dl ≡ true
+  pub untimed : s .control .time ≡ noTime
 
 pub record ReadBack : Type 0 where
   -- text: with RE = 0; the counter steps by I/D

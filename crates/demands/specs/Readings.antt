@@ -1,5 +1,6 @@
 -- Document 01, "Panel readings to be proved": one statement over one table. Each row has the calls made from fresh and what is read off
--- then, by the definitions that the contracts of the public calls cite. `ReadingsHold` is proved in proofs/, as `readings-hold`.
+-- then, by the definitions that the contracts of the public calls cite. `ReadingsHold` and `TimedReadingsHold` are proved
+-- in proofs/, as `readings-hold` and `timed-readings-hold`.
 use Prim.{Unit}
 use Prim.Native.Nat.{ℕ, _+_, _*_}
 use mathlib.Core.Bool.{Bool, true, false}
@@ -8,7 +9,7 @@ use mathlib.Core.Path.{_≡_}
 use lib.ListN.{replicate, getD}
 use Rattle.controller.specs.Memories.{wordPlace, graphicPlace, freshMemories}
 use Rattle.events.specs.declared.Event.{Event}
-use Rattle.events.specs.declared.Event.the-variants.{Transfer, Bit}
+use Rattle.events.specs.declared.Event.the-variants.{Transfer, Bit, Pass}
 use Rattle.events.specs.declared.Transfer.the-variants.{Instruct, Write, Status, Read}
 use Rattle.connector.specs.Items.{bitsOf}
 use Rattle.glyph.specs.declared.Code.the-variants.{Number}
@@ -31,6 +32,9 @@ readStatus = Transfer Status
 
 abbrev pub readData : Event
 readData = Transfer Read
+
+abbrev pub wait : ℕ → Event
+wait eights = Pass eights
 
 -- serial bytes, bit by bit with chip select high
 abbrev pub serialBytes : List ℕ → List Event
@@ -57,13 +61,16 @@ pub record Case : Type 0 where
   pub readings : List Reading
 
 abbrev pub inCase : ℕ → List Event → List Reading → Case
-inCase number calls readings = record { number = number; made = record { parallel = true }; frame = 1024; calls = calls; readings = readings }
+inCase number calls readings = record { number = number; made = record { parallel = true; time = false }; frame = 1024; calls = calls; readings = readings }
 
 abbrev pub inSerialCase : ℕ → List Event → List Reading → Case
-inSerialCase number calls readings = record { number = number; made = record { parallel = false }; frame = 1024; calls = calls; readings = readings }
+inSerialCase number calls readings = record { number = number; made = record { parallel = false; time = false }; frame = 1024; calls = calls; readings = readings }
 
 abbrev pub inFramedCase : ℕ → ℕ → List Event → List Reading → Case
-inFramedCase number length calls readings = record { number = number; made = record { parallel = true }; frame = length; calls = calls; readings = readings }
+inFramedCase number length calls readings = record { number = number; made = record { parallel = true; time = false }; frame = length; calls = calls; readings = readings }
+
+abbrev pub inTimedCase : ℕ → List Event → List Reading → Case
+inTimedCase number calls readings = record { number = number; made = record { parallel = true; time = true }; frame = 1024; calls = calls; readings = readings }
 
 unfoldable pub cases : List Case
 cases =
@@ -85,6 +92,21 @@ cases =
     ∷ inFramedCase 10 1025 (readStatus ∷ []) (numbers (1 ∷ []) ∷ [])
     ∷ inSerialCase 11 (serialBytes (0xFA ∷ 0x20 ∷ 0xD0 ∷ [])) (textWord 0 0x2D20 ∷ [])
     ∷ inSerialCase 12 (serialBytes (0xFA ∷ 0x20 ∷ 0xD1 ∷ [])) (nothingStored ∷ [])
+    ∷ []
+
+-- the same of a panel with time. 1: clear, and status until it is no longer busy. 2: a meter that waits has its hyphen and its seven. 3: one
+-- that does not loses the hyphen, and the seven stands in its place. 4: a read that comes too early answers 0,
+-- and is lost. 5: so it is with a dummy read, which stays due
+unfoldable pub timedCases : List Case
+timedCases =
+    inTimedCase 1 (instruct 0x01 ∷ readStatus ∷ wait 199 ∷ readStatus ∷ wait 1 ∷ readStatus ∷ [])
+    (replies (0 ∷ 0x80 ∷ 0 ∷ 0x80 ∷ 0 ∷ 0x00 ∷ []) ∷ counts (1024 ∷ 0 ∷ 0 ∷ 0 ∷ 0 ∷ 0 ∷ []) ∷ [])
+    ∷ inTimedCase 2 (instruct 0x80 ∷ wait 9 ∷ writeData 0x2D ∷ wait 9 ∷ writeData 0x37 ∷ readStatus ∷ wait 9 ∷ readStatus ∷ [])
+    (textWord 0 0x2D37 ∷ replies (0 ∷ 0 ∷ 0 ∷ 0 ∷ 0 ∷ 0x81 ∷ 0 ∷ 0x01 ∷ []) ∷ counts (32 ∷ 0 ∷ 32 ∷ 0 ∷ 64 ∷ 0 ∷ 0 ∷ 0 ∷ []) ∷ [])
+    ∷ inTimedCase 3 (instruct 0x80 ∷ writeData 0x2D ∷ wait 9 ∷ writeData 0x37 ∷ [])
+    (textWord 0 0x3720 ∷ counts (32 ∷ 0 ∷ 0 ∷ 32 ∷ []) ∷ numbers (0 ∷ 0 ∷ 0 ∷ 0 ∷ []) ∷ [])
+    ∷ inTimedCase 4 (instruct 0x80 ∷ wait 9 ∷ readData ∷ readData ∷ wait 9 ∷ readData ∷ []) (replies (0 ∷ 0 ∷ 0x00 ∷ 0x00 ∷ 0 ∷ 0x20 ∷ []) ∷ [])
+    ∷ inTimedCase 5 (instruct 0x80 ∷ readData ∷ wait 9 ∷ readData ∷ wait 9 ∷ readData ∷ []) (replies (0 ∷ 0x00 ∷ 0 ∷ 0x00 ∷ 0 ∷ 0x20 ∷ []) ∷ [])
     ∷ []
 
 -- seen with a zero half font, an empty full font and phase 0; each row's frame is zero too
@@ -133,3 +155,6 @@ AllHold (c ∷ more) = AllRead (observed c) (c .readings) × AllHold more
 
 abbrev pub ReadingsHold : Type 0
 ReadingsHold = AllHold cases
+
+abbrev pub TimedReadingsHold : Type 0
+TimedReadingsHold = AllHold timedCases

@@ -20,7 +20,7 @@ use Rattle.picture.specs.Picture.{Seen, wide}
 use Rattle.repaint.specs.Repaint.{countNamed}
 use Rattle.calls.specs.State.{State}
 use Rattle.calls.specs.Calls.{Fits, afterCalls}
-use Rattle.demands.specs.Wires.{sumsOf, HasWidth}
+use Rattle.demands.specs.Wires.{sumsOf, noTime, HasWidth}
 
 -- a byte written as an instruction, and one as data
 abbrev pub instruction : (byte : ℕ) → byte < 256 → Item
@@ -77,11 +77,13 @@ graphicSizes s row column =
     ∷ sizeOn s (GraphicHalf row column true)
     ∷ []
 
--- a panel whose link is idle and has the way's width, with frame and fonts that fit
+-- a panel without time whose link is idle and has the way's width, with frame and fonts that fit (with time a meter that waits is served
+-- alike: `WaitingIsServed`)
 pub record Begins (e : Seen) (way : Way) (s : State) (frame : List ℕ) : Type 0 where
   pub fits : Fits e frame
   pub idle : s .link ≡ idleOn way
   pub width : HasWidth way (s .control)
+  pub untimed : s .control .time ≡ noTime
 
 -- the calls that carry these writes leave these memories, and for each write count so many bytes
 pub record Stores (e : Seen) (way : Way) (s : State) (frame : List ℕ) (list : List Item) (m : Memories) (sizes : List ℕ) : Type 0 where

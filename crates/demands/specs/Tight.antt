@@ -24,7 +24,7 @@ use Rattle.capture.specs.declared.Answer.{Answer}
 use Rattle.capture.specs.declared.Reader.{Reader}
 use Rattle.capture.specs.Record.{readFirst, number}
 use Rattle.capture.specs.declared.Step.{Step}
-use Rattle.capture.specs.Capture.{stepAt}
+use Rattle.capture.specs.Capture.{stepAt, takenWith}
 use Rattle.capture.specs.Reader as reader
 use Rattle.playback.specs.declared.Stop.{Stop}
 use Rattle.printed.specs.Text as lines
@@ -102,9 +102,14 @@ pub record Replaying (S : Type 0) : Type 0 where
   pub capture : List ℕ
   pub frame : List ℕ
 
--- what the exported replay is given: the pin, fonts and phase, the capture, and the three buffers that it may write
+-- an answer of the reader, and whether the panel has time
+pub record Taking : Type 0 where
+  pub time : Bool
+  pub answer : Answer
+
+-- what the exported replay is given: the pin and whether there is time, fonts and phase, the capture, and the three buffers that it may write
 pub record Exported : Type 0 where
-  pub parallel : Bool
+  pub made : Made
   pub seen : Seen
   pub capture : List ℕ
   pub frame : List ℕ
@@ -141,15 +146,16 @@ pub record LastLine : Type 0 where
 -- the public calls
 pub data PublicCall : Type 0 where
   fresh : PublicCall
-  -- transfer, bit, select_low and reset, each with its own event
+  -- transfer, bit, select_low, reset and pass, each with its own event
   call : PublicCall
   draw : PublicCall
-  -- the same four on lent memories
+  -- the same five on lent memories
   lentCall : PublicCall
   send : PublicCall
   read : PublicCall
   recordAt : PublicCall
   answerNumber : PublicCall
+  answerTakenWith : PublicCall
   readerOver : PublicCall
   readerStep : PublicCall
   replay : PublicCall
@@ -194,6 +200,7 @@ contractOf send = sends
 contractOf read = answering readFirst
 contractOf recordAt = answering (λ (i : At (List ℕ)). stepAt (i .capture) (i .at))
 contractOf answerNumber = answering number
+contractOf answerTakenWith = answering (λ (i : Taking). takenWith (i .time) (i .answer))
 contractOf readerStep = answering reader.readerStep
 contractOf readerOver = answering (λ (i : At (RefT (List ℕ))). reader.over (i .capture) (i .at))
 contractOf replay =
@@ -235,7 +242,7 @@ contractOf exportedReplay =
       Outcome = Report;
       Left = Report;
       leaves = λ x. report (x .number) (x .frame) (x .state) (x .last);
-      means = λ i. freshReplay (i .parallel) (i .seen) (i .capture) (i .frame) (i .state) (i .last);
+      means = λ i. freshReplay (i .made) (i .seen) (i .capture) (i .frame) (i .state) (i .last);
     }
 contractOf braille = answering brailleOf.braille
 contractOf plain = answering plainOf.plain

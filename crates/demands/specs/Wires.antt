@@ -3,23 +3,27 @@ use Prim.{Unit}
 use Prim.Native.Nat.{ℕ, _+_, _-_, _≤_, _<_}
 use mathlib.Core.Bool.{Bool, true, false}
 use mathlib.Core.List.{List, [], _∷_, _++_, map}
-use mathlib.Core.Path.{_≡_}
+use mathlib.Core.Path.{_≡_, refl}
 use lib.ListN.{length, take, drop, replicate}
 use Rattle.base.specs.Bits.{bit}
+use Rattle.controller.specs.declared.Time.{Time}
 use Rattle.controller.specs.declared.Control.{Control}
 use Rattle.controller.specs.Memories.{Memories}
 use Rattle.controller.specs.Instructions.{withFunction}
 use Rattle.deeds.specs.Transfers.{Acted, performed}
 use Rattle.events.specs.declared.Event.{Event}
+use Rattle.events.specs.declared.Event.the-variants as event
+use Rattle.events.specs.declared.Deed.the-variants as deeds
 use Rattle.links.specs.declared.Link.{Link}
+use Rattle.links.specs.Taken.{takenBy}
 use Rattle.events.specs.declared.Transfer.{Transfer}
 use Rattle.events.specs.declared.Transfer.the-variants.{Instruct, Write, Status, Read}
-use Rattle.connector.specs.Items.{WholeWrite, Item, write, deed, Way, wholeBytes, halves, serial, wires}
+use Rattle.connector.specs.Items.{WholeWrite, Beside, Item, write, besideWires, deed, Way, wholeBytes, halves, serial, wires}
 use Rattle.connector.specs.Connector.{Performed, Controller, does}
 use Rattle.picture.specs.Picture.{Seen, lookOf, wide}
 use Rattle.repaint.specs.Repaint.{repainted, countNamed}
 use Rattle.calls.specs.State.{State, state}
-use Rattle.calls.specs.Calls.{Called, called, Stands}
+use Rattle.calls.specs.Calls.{Called, timeless, called, Stands}
 
 -- what each call of a sequence leaves and answers
 unfoldable pub answers : Seen → State → List ℕ → List Event → List Called
@@ -106,6 +110,21 @@ onLink b link = state (b .memories) (b .control) link
 
 abbrev pub standing : Board → Link → Stands
 standing b link = record { state = onLink b link; frame = b .frame }
+
+-- so many times 8 microseconds pass between whole writes: an event beside the wires
+pub passing : ℕ → Item
+unfolding takenBy
+passing eights = besideWires (record { event = event.Pass eights; deed = deeds.Pass eights; alike = λ dl link. refl })
+
+-- a panel without time, which so is never busy
+abbrev pub noTime : Time
+noTime = record { timed = false; remaining = 0 }
+
+-- time passes only on a panel that has time
+unfoldable pub Timely : Control → List Item → Type 0
+Timely c [] = Unit {0}
+Timely c (write w ∷ items) = Timely c items
+Timely c (besideWires x ∷ items) = (timeless c (x .event) ≡ false) × Timely c items
 
 -- a list with nothing but writes
 abbrev pub items : List WholeWrite → List Item
