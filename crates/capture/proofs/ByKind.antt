@@ -26,12 +26,3 @@ by-kind P (suc (suc (suc (suc (suc zero))))) k0 k1 k2 k3 k4 k5 k6 k7 = k5 refl
 by-kind P (suc (suc (suc (suc (suc (suc zero)))))) k0 k1 k2 k3 k4 k5 k6 k7 = k6 refl
 by-kind P (suc (suc (suc (suc (suc (suc (suc zero))))))) k0 k1 k2 k3 k4 k5 k6 k7 = k7 (omega arith)
 by-kind P (suc (suc (suc (suc (suc (suc (suc (suc n)))))))) k0 k1 k2 k3 k4 k5 k6 k7 = k7 (omega arith)
-
--- the last kind
-pub above-six : (n : ℕ) → 6 < n → kindOf n ≡ timePasses
-above-six n h =
-    by-kind (λ (k : Kind). k ≡ timePasses) n (λ e. absurd (omega arith)) (λ e. absurd (omega arith)) (λ e. absurd (omega arith)) (λ e. absurd (omega arith))
-    (λ e. absurd (omega arith))
-    (λ e. absurd (omega arith))
-    (λ e. absurd (omega arith))
-    (λ e. refl)

@@ -1,4 +1,4 @@
--- Laws of a record: a refused one has no effect, a frame keeps its length, and one event is a call.
+-- Laws of a record: a refused one has no effect, a frame keeps its length, a panel has time or not as before, and one event is a call.
 use Prim.Native.Nat.{ℕ}
 use mathlib.Core.List.{List, [], _∷_, map}
 use mathlib.Core.Path.{_≡_, refl, sym, ap, _∙_}
@@ -11,10 +11,10 @@ use Rattle.events.specs.declared.Event.{Event}
 use Rattle.events.specs.declared.Event.the-variants.{Bit}
 use Rattle.links.specs.Sender.{highestFirst}
 use Rattle.picture.specs.Picture.{Seen}
-use Rattle.capture.specs.Kinds.{Kind, instructionWrite, dataWrite, statusRead, dataRead, eightBits, chipSelectLow, reset, kindOf}
+use Rattle.capture.specs.Kinds.{Kind, instructionWrite, dataWrite, statusRead, dataRead, eightBits, chipSelectLow, reset, timePasses, kindOf}
 use Rattle.calls.specs.State.{State}
 use Rattle.calls.specs.Calls.{Called, refused, called}
-use Rattle.calls.proofs.Kept.{Unmoved, called-unmoved, called-length}
+use Rattle.calls.proofs.Kept.{Unmoved, called-unmoved, called-timed, called-length}
 use Rattle.records.specs.Records.{asks, calledOn, firstNumber, calledInTurn, recordCalled}
 
 -- a record asks for one event, or for the bits of its value
@@ -30,6 +30,7 @@ one-or-bits P dataRead value one bits = one _
 one-or-bits P eightBits value one bits = bits
 one-or-bits P chipSelectLow value one bits = one _
 one-or-bits P reset value one bits = one _
+one-or-bits P timePasses value one bits = one _
 
 -- what is called in turn is no refusal
 pub called-on-accepted : (e : Seen) (reply : ℕ) (s : State) (frame : List ℕ) (events : List Event) → calledOn e reply s frame events .number ≡ 0
@@ -43,6 +44,13 @@ unfolding calledOn
 called-on-length e reply s frame [] = refl
 called-on-length e reply s frame (event ∷ events) = called-on-length e _ _ _ events ∙ called-length e s frame event
 
+called-on-timed :
+    (e : Seen) (reply : ℕ) (s : State) (frame : List ℕ) (events : List Event)
+    → calledOn e reply s frame events .state .control .time .timed ≡ s .control .time .timed
+unfolding calledOn
+called-on-timed e reply s frame [] = refl
+called-on-timed e reply s frame (event ∷ events) = called-on-timed e _ _ _ events ∙ called-timed e s frame event
+
 module _ (e : Seen) (s : State) (frame : List ℕ) where
   in-turn-unmoved : (events : List Event) → Unmoved s frame (calledInTurn e s frame events)
   unfolding calledInTurn
@@ -53,6 +61,13 @@ module _ (e : Seen) (s : State) (frame : List ℕ) where
   unfolding calledInTurn
   in-turn-length events =
       either (λ (k : Called). length (k .frame) ≡ length frame) (eqb (firstNumber e s frame events) 0) (called-on-length e 0 s frame events) refl
+
+  in-turn-timed : (events : List Event) → calledInTurn e s frame events .state .control .time .timed ≡ s .control .time .timed
+  unfolding calledInTurn
+  in-turn-timed events =
+      either (λ (k : Called). k .state .control .time .timed ≡ s .control .time .timed) (eqb (firstNumber e s frame events) 0)
+      (called-on-timed e 0 s frame events)
+      refl
 
   module _ (event : Event) (events : List Event) where
     -- the first event is accepted, and all are called
@@ -85,6 +100,11 @@ module _ (e : Seen) (kind value : ℕ) (s : State) (frame : List ℕ) where
   pub record-length : length (recordCalled e kind value s frame .frame) ≡ length frame
   unfolding recordCalled
   record-length = in-turn-length e s frame _
+
+  -- whether there is time is fixed when a panel is made, and survives reset
+  pub record-timed : recordCalled e kind value s frame .state .control .time .timed ≡ s .control .time .timed
+  unfolding recordCalled
+  record-timed = in-turn-timed e s frame _
 
   -- the frame is what it was
   pub record-frame : (k : Called) → k ≡ recordCalled e kind value s frame → (k .number ≡ 0 → ⊥) → k .frame ≡ frame

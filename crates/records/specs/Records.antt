@@ -1,14 +1,14 @@
--- Document 01, "Captures": what a record asks of a panel, and what that leaves.
+-- Document 01, "Captures", and request K1: what a record asks of a panel, and what that leaves.
 use Prim.Native.Nat.{ℕ, _+_}
 use mathlib.Core.List.{List, [], _∷_, map}
 use lib.Dec.{eqb}
 use Rattle.base.specs.Choice.{if_then_else_}
 use Rattle.events.specs.declared.Event.{Event}
-use Rattle.events.specs.declared.Event.the-variants.{Transfer, Bit, SelectLow, Reset}
+use Rattle.events.specs.declared.Event.the-variants.{Transfer, Bit, SelectLow, Reset, Pass}
 use Rattle.events.specs.declared.Transfer.the-variants.{Instruct, Write, Status, Read}
 use Rattle.links.specs.Sender.{highestFirst}
 use Rattle.picture.specs.Picture.{Seen}
-use Rattle.capture.specs.Kinds.{Kind, instructionWrite, dataWrite, statusRead, dataRead, eightBits, chipSelectLow, reset, kindOf}
+use Rattle.capture.specs.Kinds.{Kind, instructionWrite, dataWrite, statusRead, dataRead, eightBits, chipSelectLow, reset, timePasses, kindOf}
 use Rattle.calls.specs.State.{State}
 use Rattle.calls.specs.Calls.{Called, refused, called}
 
@@ -21,6 +21,7 @@ asks dataRead value = Transfer Read ∷ []
 asks eightBits value = map Bit (highestFirst value)
 asks chipSelectLow value = SelectLow ∷ []
 asks reset value = Reset (record { parallel = eqb value 1 }) ∷ []
+asks timePasses value = Pass value ∷ []
 
 -- called in turn, behind a call that replied so: number 0, the last reply, the sum of the counts
 unfoldable pub calledOn : Seen → ℕ → State → List ℕ → List Event → Called

@@ -59,9 +59,10 @@ fn event_of(kind: u8, value: u8) -> Event
         2 => Event::Transfer(Transfer::Status),
         3 => Event::Transfer(Transfer::Read),
         5 => Event::SelectLow,
-        _ => Event::Reset(Pin {
+        6 => Event::Reset(Pin {
             parallel: value == 1,
         }),
+        _ => Event::Pass(value),
     }
 }
 

@@ -1,7 +1,11 @@
--- By the kind.
-use native.Mathlib.Omega.{arith}
-use Rattle.capture.specs.Kinds.{kindOf}
-use Rattle.capture.proofs.ByKind.{above-five}
+-- By the kind; the last arm is that of the one kind which is left.
+use mathlib.Core.List.{List, [], _∷_}
+use mathlib.Core.Path.{_≡_, refl}
+use Rattle.events.specs.declared.Event.{Event}
+use Rattle.events.specs.declared.Event.the-variants.{Pass}
+use Rattle.capture.specs.Kinds.{Kind, kindOf}
+use Rattle.capture.proofs.ByKind.{by-kind}
+use Rattle.records.specs.Records.{asks}
 use Rattle.records.proofs.event_of.Statement.{statement}
 use Rattle.records.proofs.event_of.Tie as tie
 
@@ -15,5 +19,15 @@ event-of-spec =
     (λ c. rw (c .match .keys3))
     (λ c. rw (c .match .keys4))
     (λ c. rw (c .match .keys5))
+    (λ c. rw (c .match .keys6))
     (λ c. let others = c .match .rest in
-    rw (above-five (c .before .args .kind) (omega (arith, others .0 .0 .0 .0 .1, others .0 .0 .0 .1, others .0 .0 .1, others .0 .1, c .before .pre, others .1)))))
+    let value = c .before .args .value in
+    by-kind (λ (k : Kind). _≡_ {A = List Event} (Pass value ∷ []) (asks k value)) (c .before .args .kind)
+    (λ e. absurd (others .0 .0 .0 .0 .0 .1 e))
+    (λ e. absurd (others .0 .0 .0 .0 .1 e))
+    (λ e. absurd (others .0 .0 .0 .1 e))
+    (λ e. absurd (others .0 .0 .1 e))
+    (λ e. absurd (c .before .pre e))
+    (λ e. absurd (others .0 .1 e))
+    (λ e. absurd (others .1 e))
+    (λ e. refl)))
