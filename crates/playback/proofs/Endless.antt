@@ -10,9 +10,9 @@ use Rattle.picture.specs.Picture.{Seen}
 use Rattle.picture.specs.Refusals.{refusalOf}
 use Rattle.calls.specs.State.{State}
 use Rattle.capture.specs.Record.{number}
-use Rattle.capture.specs.Capture.{Recorded, contents}
+use Rattle.capture.specs.Capture.{Recorded}
 use Rattle.records.specs.Records.{recordCalled}
-use Rattle.playback.specs.Replay.{Replayed, endless, recordsReplayed, replayed}
+use Rattle.playback.specs.Replay.{Replayed, endless, recordsReplayed, readBy, replayed}
 
 module _ (e : Seen) where
   records-not-full : (last : ℕ) (rs : List Recorded) (s : State) (f : List ℕ) (n : ℕ) → recordsReplayed e last endless rs s f n .ending .full ≡ false
@@ -25,5 +25,5 @@ module _ (e : Seen) where
   unfolding replayed
   not-full c s f n =
       either (λ (x : Replayed). x .ending .full ≡ false) (eqb (refusalOf (length f) (length (e .fonts .half)) (length (e .fonts .full))) 0)
-      (records-not-full (number (contents c .stop)) (contents c .records) s f n)
+      (records-not-full (number (readBy s c .stop)) (readBy s c .records) s f n)
       refl

@@ -19,16 +19,17 @@ use Rattle.calls.specs.Calls.{Called}
 use Rattle.capture.specs.declared.Answer.{Answer}
 use Rattle.capture.specs.declared.Answer.the-variants.{Record}
 use Rattle.capture.specs.Record.{number}
-use Rattle.capture.specs.Capture.{Contents, contents, readAt, passed}
+use Rattle.capture.specs.Capture.{Contents, readAt, passed, takenWith}
 use Rattle.capture.proofs.Answers.{record-within}
 use Rattle.capture.proofs.Contents.{contents-at-record, contents-at-stop}
+use Rattle.capture.proofs.Taken.{taken-record}
 use Rattle.printed.specs.Text.{RecordAnswer, recordAnswer, line, lines, Put, Counts, longestLine, hasRoom}
 use Rattle.printed.proofs.Writing.{put-length, line-length, count-digits}
 use Rattle.records.specs.Records.{recordCalled}
-use Rattle.playback.specs.Replay.{Replayed, halted, afterAnswers, Room, roomOf, roomFor, roomBehind, recordsReplayed, replayed}
+use Rattle.playback.specs.Replay.{Replayed, halted, afterAnswers, Room, roomOf, roomFor, roomBehind, recordsReplayed, readBy, replayed}
 use Rattle.playback.specs.Transcript.{lastOr, toldBy, Told, told}
 use Rattle.playback.proofs.Answers.{answerFrom}
-use Rattle.records.proofs.Refused.{record-frame, record-length}
+use Rattle.records.proofs.Refused.{record-timed, record-frame, record-length}
 use Rattle.records.proofs.Once.{record-count}
 use Rattle.playback.proofs.Parts.{contentsReplayed}
 
@@ -76,34 +77,41 @@ module _ (rest n : ℕ) where
   counted-on true room h = tested room .1
   counted-on false room h = h refl
 
+-- what a panel takes for what stands at a place
+abbrev pub takenAt : State → List ℕ → ℕ → Answer
+takenAt s c at = takenWith (s .control .time .timed) (readAt c at)
+
 module _ (e : Seen) (room : Room) (c : List ℕ) (s : State) (f : List ℕ) (n at : ℕ) where
   -- what is replayed from here on
   abbrev onward : Replayed
-  onward = contentsReplayed e room (contents (drop at c)) s f n
+  onward = contentsReplayed e room (readBy s (drop at c)) s f n
 
-  module _ {kind value : ℕ} (k : Called) (h : readAt c at ≡ Record kind value) (is : k ≡ recordCalled e kind value s f) where
+  module _ {kind value : ℕ} (k : Called) (h : takenAt s c at ≡ Record kind value) (is : k ≡ recordCalled e kind value s f) where
     -- an accepted record answers, and the rest is replayed on what it left
     replayed-record :
         roomFor room n ≡ true
         → k .number ≡ 0
         → onward
-        ≡ afterAnswers (answerFrom kind k ∷ []) (contentsReplayed e (roomBehind room (line n (answerFrom kind k))) (contents (drop (at + 4) c)) (k .state) (k .frame) (n + 1))
+        ≡ afterAnswers (answerFrom kind k ∷ []) (contentsReplayed e (roomBehind room (line n (answerFrom kind k))) (readBy (k .state) (drop (at + 4) c)) (k .state) (k .frame) (n + 1))
     unfolding recordsReplayed
     replayed-record space z =
-        ap (λ (x : Contents). contentsReplayed e room x s f n) (contents-at-record c at h) ∙ rw (space, ← is, eq-eqb (k .number) 0 z)
+        let timed : k .state .control .time .timed ≡ s .control .time .timed =
+        ap (λ (x : Called). x .state .control .time .timed) is ∙ record-timed e kind value s f in
+        ap (λ (x : Contents). contentsReplayed e room x s f n) (contents-at-record (s .control .time .timed) c at h)
+        ∙ rw (space, ← is, eq-eqb (k .number) 0 z, timed)
 
     replayed-refused : roomFor room n ≡ true → (k .number ≡ 0 → ⊥) → onward ≡ halted s f n (k .number) false
     unfolding recordsReplayed
     replayed-refused space z =
-        ap (λ (x : Contents). contentsReplayed e room x s f n) (contents-at-record c at h) ∙ rw (space, ← is, ne-eqb (k .number) 0 z)
+        ap (λ (x : Contents). contentsReplayed e room x s f n) (contents-at-record (s .control .time .timed) c at h) ∙ rw (space, ← is, ne-eqb (k .number) 0 z)
 
-  replayed-unroomed : {kind value : ℕ} → readAt c at ≡ Record kind value → roomFor room n ≡ false → onward ≡ halted s f n 0 true
+  replayed-unroomed : {kind value : ℕ} → takenAt s c at ≡ Record kind value → roomFor room n ≡ false → onward ≡ halted s f n 0 true
   unfolding recordsReplayed
-  replayed-unroomed h space = ap (λ (x : Contents). contentsReplayed e room x s f n) (contents-at-record c at h) ∙ rw space
+  replayed-unroomed h space = ap (λ (x : Contents). contentsReplayed e room x s f n) (contents-at-record (s .control .time .timed) c at h) ∙ rw space
 
-  replayed-stop : passed (readAt c at) ≡ 0 → onward ≡ halted s f n (number (readAt c at)) false
+  replayed-stop : passed (takenAt s c at) ≡ 0 → onward ≡ halted s f n (number (takenAt s c at)) false
   unfolding recordsReplayed
-  replayed-stop h = ap (λ (x : Contents). contentsReplayed e room x s f n) (contents-at-stop c at h)
+  replayed-stop h = ap (λ (x : Contents). contentsReplayed e room x s f n) (contents-at-stop (s .control .time .timed) c at h)
 
 module _ (e : Seen) (telling : Bool) (c : List ℕ) (s₀ : State) (f₀ : List ℕ) (n₀ : ℕ) (text₀ : List ℕ) where
   -- what the loop is to leave
@@ -139,7 +147,7 @@ module _ (e : Seen) (telling : Bool) (c : List ℕ) (s₀ : State) (f₀ : List 
     pub stands : text ≡ sets text₀ 0 (toldBy telling (lines n₀ before))
     pub follows : filled ≡ length (toldBy telling (lines n₀ before))
     pub inside : filled ≤ length text
-    pub same : whole ≡ afterAnswers before (contentsReplayed e (roomOf telling (length text - filled)) (contents (drop at c)) s f n)
+    pub same : whole ≡ afterAnswers before (contentsReplayed e (roomOf telling (length text - filled)) (readBy s (drop at c)) s f n)
 
   pub begins :
       (m : ℕ)
@@ -164,11 +172,14 @@ module _ (e : Seen) (telling : Bool) (c : List ℕ) (s₀ : State) (f₀ : List 
   }
 
   module _ {s : State} {f : List ℕ} {n at reply count : ℕ} {text : List ℕ} {filled : ℕ} (g : Going s f n at reply count text filled) where
-    pub long : {kind value : ℕ} → readAt c at ≡ Record kind value → at + 4 ≤ length c
-    long h = omega (arith, record-within (drop at c) h, length-drop at c, g .within)
+    stood : {kind value : ℕ} → takenAt s c at ≡ Record kind value → readAt c at ≡ Record kind value
+    stood h = taken-record (s .control .time .timed) (readAt c at) h
 
-    pub further : {kind value at' : ℕ} → readAt c at ≡ Record kind value → at' ≡ at + passed (readAt c at) → at' ≡ at + 4
-    further h next = next ∙ ap (λ (a : Answer). at + passed a) h
+    pub long : {kind value : ℕ} → takenAt s c at ≡ Record kind value → at + 4 ≤ length c
+    long h = omega (arith, record-within (drop at c) (stood h), length-drop at c, g .within)
+
+    pub further : {kind value at' : ℕ} → takenAt s c at ≡ Record kind value → at' ≡ at + passed (readAt c at) → at' ≡ at + 4
+    further h next = next ∙ ap (λ (a : Answer). at + passed a) (stood h)
 
     pub sized : length text ≡ length text₀
     sized = ap length (g .stands) ∙ length-sets text₀ 0 (toldBy telling (lines n₀ (g .before)))
@@ -188,22 +199,22 @@ module _ (e : Seen) (telling : Bool) (c : List ℕ) (s₀ : State) (f₀ : List 
     -- what is no record
     pub stops :
         (m : ℕ)
-        → passed (readAt c at) ≡ 0
-        → m ≡ number (readAt c at)
+        → passed (takenAt s c at) ≡ 0
+        → m ≡ number (takenAt s c at)
         → Leaves (record { ending = halted s f n m false .ending; reply = reply; count = count; text = text; filled = filled })
-    stops m h is = rw is (ended (halted s f n (number (readAt c at)) false) refl (g .same ∙ ap (afterAnswers (g .before)) (replayed-stop e _ c s f n at h)))
+    stops m h is = rw is (ended (halted s f n (number (takenAt s c at)) false) refl (g .same ∙ ap (afterAnswers (g .before)) (replayed-stop e _ c s f n at h)))
 
     -- a record whose line might have no room
     pub is-full :
         {kind value : ℕ}
-        → readAt c at ≡ Record kind value
+        → takenAt s c at ≡ Record kind value
         → roomFor (roomOf telling (length text - filled)) n ≡ false
         → Leaves (record { ending = halted s f n 0 true .ending; reply = reply; count = count; text = text; filled = filled })
     is-full h space = ended (halted s f n 0 true) refl (g .same ∙ ap (afterAnswers (g .before)) (replayed-unroomed e _ c s f n at h space))
 
     module _
         {kind value : ℕ} (k : Called)
-        (h : readAt c at ≡ Record kind value)
+        (h : takenAt s c at ≡ Record kind value)
         (is : k ≡ recordCalled e kind value s f)
         (space : roomFor (roomOf telling (length text - filled)) n ≡ true) where
       pub room-for-line : filled + length (toldBy telling (line n (answerFrom kind k))) ≤ length text
@@ -252,7 +263,7 @@ module _ (e : Seen) (telling : Bool) (c : List ℕ) (s₀ : State) (f₀ : List 
                 g .same
                 ∙ ap (afterAnswers (g .before)) (replayed-record e _ c s f n at k h is space z)
                 ∙ one-more (g .before) a _
-                ∙ ap (λ (r : Room). afterAnswers (g .before ++ (a ∷ [])) (contentsReplayed e r (contents (drop (at + 4) c)) (k .state) (k .frame) (n + 1)))
+                ∙ ap (λ (r : Room). afterAnswers (g .before ++ (a ∷ [])) (contentsReplayed e r (readBy (k .state) (drop (at + 4) c)) (k .state) (k .frame) (n + 1)))
                 (sym (ap (roomOf telling) rest ∙ room-behind telling (length text - filled) (line n (answerFrom kind k))));
           }
 

@@ -17,15 +17,15 @@ use Rattle.calls.specs.Calls.{Called}
 use Rattle.capture.specs.declared.Answer.{Answer}
 use Rattle.capture.specs.declared.Answer.the-variants.{Record, Refused, End}
 use Rattle.capture.specs.Record.{number}
-use Rattle.capture.specs.Capture.{Recorded, Contents, contents}
+use Rattle.capture.specs.Capture.{Recorded, Contents}
 use Rattle.capture.proofs.Contents.{joinedAt, contents-of-parts, Stops, contents-stop}
 use Rattle.records.specs.Records.{recordCalled}
 use Rattle.printed.specs.Text.{RecordAnswer, line, lines}
-use Rattle.playback.specs.Replay.{Ending, Replayed, Room, endless, bytes, roomFor, roomBehind, ended, halted, afterAnswers, recordsReplayed, replayed}
+use Rattle.playback.specs.Replay.{Ending, Replayed, Room, endless, bytes, roomFor, roomBehind, ended, halted, afterAnswers, recordsReplayed, readBy, replayed}
 use Rattle.playback.specs.Transcript.{Told, told, transcribed}
 use Rattle.playback.specs.Statements.{goneOn, PartsReplayAsWhole, Joins, TranscribesAsWhole, PartsTranscribeAsWhole}
 use Rattle.playback.proofs.Answers.{answerFrom}
-use Rattle.records.proofs.Refused.{record-length}
+use Rattle.records.proofs.Refused.{record-timed, record-length}
 
 -- the room behind no text, and behind one text and another
 behind-none : (room : Room) → roomBehind room [] ≡ room
@@ -128,14 +128,26 @@ module _ (e : Seen) where
       (replayed-length last _ xs _ _ _ ∙ record-length e (r .kind) (r .value) s f)
       refl)
 
-  -- where frame and fonts are not refused, nothing is asked of them again
+  replayed-timed :
+      (last : ℕ) (room : Room) (xs : List Recorded) (s : State) (f : List ℕ) (n : ℕ)
+      → recordsReplayed e last room xs s f n .ending .state .control .time .timed ≡ s .control .time .timed
+  unfolding recordsReplayed
+  replayed-timed last room [] s f n = refl
+  replayed-timed last room (r ∷ xs) s f n =
+      either (λ (x : Replayed). x .ending .state .control .time .timed ≡ s .control .time .timed) (not (roomFor room n)) refl
+      (either (λ (x : Replayed). x .ending .state .control .time .timed ≡ s .control .time .timed) (eqb (recordCalled e (r .kind) (r .value) s f .number) 0)
+      (replayed-timed last _ xs _ _ _ ∙ record-timed e (r .kind) (r .value) s f)
+      refl)
+
+  -- where frame and fonts are not refused, nothing is asked of them again; and the next part is read as the first was
   let-in-again :
-      (room : Room) (n : ℕ) (more : List ℕ) (f : List ℕ) (r : Replayed)
+      (room : Room) (n : ℕ) (more : List ℕ) (s : State) (f : List ℕ) (r : Replayed)
       → eqb (refusalOf (length f) (length (e .fonts .half)) (length (e .fonts .full))) 0 ≡ true
+      → r .ending .state .control .time .timed ≡ s .control .time .timed
       → length (r .ending .frame) ≡ length f
-      → goneOver room n (contents more) r ≡ goneOn e room n more r
+      → goneOver room n (readBy s more) r ≡ goneOn e room n more r
   unfolding replayed
-  let-in-again room n more f r q l = rw (l, q)
+  let-in-again room n more s f r q t l = rw (l, q, t)
 
 pub parts-replay-as-whole : PartsReplayAsWhole
 unfolding replayed
@@ -145,17 +157,18 @@ parts-replay-as-whole e room part more s f n h = by (eqb (refusalOf (length f) (
     m = refusalOf (length f) (length (e .fonts .half)) (length (e .fonts .full))
 
     x : Contents
-    x = contents part
+    x = readBy s part
 
     by :
         (t : Bool)
         → eqb m 0 ≡ t
-        → (if t then contentsReplayed e room (contents (part ++ more)) s f n else halted s f n m false)
+        → (if t then contentsReplayed e room (readBy s (part ++ more)) s f n else halted s f n m false)
         ≡ goneOn e room n more (if t then contentsReplayed e room x s f n else halted s f n m false)
     by true q =
-        ap (λ (c : Contents). contentsReplayed e room c s f n) (contents-of-parts part more h)
-        ∙ replayed-by-stop e room (x .records) (x .stop) (contents more) s f n (contents-stop part)
-        ∙ let-in-again e room n more f (contentsReplayed e room x s f n) q (replayed-length e (number (x .stop)) room (x .records) s f n)
+        ap (λ (c : Contents). contentsReplayed e room c s f n) (contents-of-parts (s .control .time .timed) part more h)
+        ∙ replayed-by-stop e room (x .records) (x .stop) (readBy s more) s f n (contents-stop (s .control .time .timed) part)
+        ∙ let-in-again e room n more s f (contentsReplayed e room x s f n) q (replayed-timed e (number (x .stop)) room (x .records) s f n)
+        (replayed-length e (number (x .stop)) room (x .records) s f n)
     by false q = rw q
 
 -- the place counts the answers
@@ -177,7 +190,7 @@ module _ (e : Seen) where
   unfolding replayed
   replayed-place room c s f n =
       either (λ (x : Replayed). x .ending .place ≡ n + length (x .answers)) (eqb (refusalOf (length f) (length (e .fonts .half)) (length (e .fonts .full))) 0)
-      (records-place (number (contents c .stop)) room (contents c .records) s f n)
+      (records-place (number (readBy s c .stop)) room (readBy s c .records) s f n)
       (omega arith)
 
 -- stores from a place on leave what stands before it

@@ -13,11 +13,11 @@ use Rattle.picture.specs.Refusals.{refusalOf}
 use Rattle.calls.specs.State.{State}
 use Rattle.calls.specs.Calls.{Called}
 use Rattle.capture.specs.Record.{number}
-use Rattle.capture.specs.Capture.{Recorded, contents}
+use Rattle.capture.specs.Capture.{Recorded}
 use Rattle.printed.specs.Text.{RecordAnswer, line, longestLine, hasRoom}
 use Rattle.printed.proofs.Writing.{decimal-length, line-length, count-digits}
 use Rattle.records.specs.Records.{recordCalled}
-use Rattle.playback.specs.Replay.{Replayed, halted, afterAnswers, endless, bytes, recordsReplayed, replayed}
+use Rattle.playback.specs.Replay.{Replayed, halted, afterAnswers, endless, bytes, recordsReplayed, readBy, replayed}
 use Rattle.playback.specs.Statements.{RoomTellsAll}
 use Rattle.playback.proofs.Answers.{answerFrom}
 use Rattle.records.proofs.Once.{record-count}
@@ -51,4 +51,4 @@ pub room-tells-all : RoomTellsAll
 unfolding replayed
 room-tells-all e room capture s f n h l =
     ap (λ (r : Replayed). if eqb (refusalOf (length f) (length (e .fonts .half)) (length (e .fonts .full))) 0 then r else halted s f n (refusalOf (length f) (length (e .fonts .half)) (length (e .fonts .full))) false)
-    (roomy e (number (contents capture .stop)) room (contents capture .records) s f n h l)
+    (roomy e (number (readBy s capture .stop)) room (readBy s capture .records) s f n h l)

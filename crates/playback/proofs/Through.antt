@@ -15,10 +15,11 @@ use Rattle.calls.specs.Calls.{Called}
 use Rattle.capture.specs.declared.Answer.{Answer}
 use Rattle.capture.specs.declared.Answer.the-variants.{Record, Refused, End}
 use Rattle.capture.specs.Record.{readFirst, number}
-use Rattle.capture.specs.Capture.{Recorded, Contents, readOn, contents}
-use Rattle.capture.proofs.Answers.{four-are-no-end, Numbered, read-numbered}
+use Rattle.capture.specs.Capture.{Recorded, Contents, takenWith, readOn, contents}
+use Rattle.capture.proofs.Answers.{Numbered}
+use Rattle.capture.proofs.Taken.{four-taken-no-end, taken-numbered}
 use Rattle.records.specs.Records.{recordCalled}
-use Rattle.playback.specs.Replay.{Replayed, Room, bytes, roomFor, roomBehind, recordsReplayed, replayed}
+use Rattle.playback.specs.Replay.{Replayed, Room, bytes, roomFor, roomBehind, recordsReplayed, readBy, replayed}
 use Rattle.printed.specs.Text.{line}
 use Rattle.playback.specs.Transcript.{Told, transcribed}
 use Rattle.playback.proofs.Answers.{answerFrom}
@@ -46,14 +47,22 @@ goes-on-whole (Record kind value) on rest n never h z = omega (arith, h z)
 goes-on-whole (Refused m) on rest n never h z = absurd (eqb-false m 0 n z)
 goes-on-whole End on rest n never h z = absurd (never refl)
 
-all-read : (c : List ℕ) → number (contents c .stop) ≡ 0 → length c ≡ 4 * length (contents c .records)
-unfolding contents readFirst
-all-read [] z = refl
-all-read (a ∷ []) z = absurd (omega arith)
-all-read (a ∷ b ∷ []) z = absurd (omega arith)
-all-read (a ∷ b ∷ d ∷ []) z = absurd (omega arith)
-all-read (a ∷ b ∷ d ∷ e ∷ c) z =
-    omega (arith, goes-on-whole (readFirst (a ∷ b ∷ d ∷ e ∷ c)) (contents c) (length c) (read-numbered (a ∷ b ∷ d ∷ e ∷ c)) (four-are-no-end a b d e c) (all-read c) z)
+module _ (time : Bool) where
+  all-read : (c : List ℕ) → number (contents time c .stop) ≡ 0 → length c ≡ 4 * length (contents time c .records)
+  unfolding contents readFirst
+  all-read [] z = refl
+  all-read (a ∷ []) z = absurd (omega arith)
+  all-read (a ∷ b ∷ []) z = absurd (omega arith)
+  all-read (a ∷ b ∷ d ∷ []) z = absurd (omega arith)
+  all-read (a ∷ b ∷ d ∷ e ∷ c) z =
+      omega (
+        arith,
+        goes-on-whole (takenWith time (readFirst (a ∷ b ∷ d ∷ e ∷ c))) (contents time c) (length c)
+        (taken-numbered time (a ∷ b ∷ d ∷ e ∷ c))
+        (four-taken-no-end time a b d e c)
+        (all-read c)
+        z,
+      )
 
 pub went-through :
     (e : Seen) (room : Room) (c : List ℕ) (s : State) (f : List ℕ) (n : ℕ)
@@ -64,7 +73,7 @@ unfolding replayed
 went-through e room c s f n =
     either-told (λ (r : Replayed). r .ending .number ≡ 0 → r .ending .full ≡ false → r .ending .place ≡ n + length c / 4)
     (eqb (refusalOf (length f) (length (e .fonts .half)) (length (e .fonts .full))) 0)
-    (λ t z q. let all = all-replayed e (number (contents c .stop)) room (contents c .records) s f n z q in omega (arith, all .1, all-read c (all .0)))
+    (λ t z q. let all = all-replayed e (number (readBy s c .stop)) room (readBy s c .records) s f n z q in omega (arith, all .1, all-read (s .control .time .timed) c (all .0)))
     (λ t z q. absurd (eqb-false (refusalOf (length f) (length (e .fonts .half)) (length (e .fonts .full))) 0 t z))
 
 -- and so has a transcript

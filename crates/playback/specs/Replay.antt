@@ -1,4 +1,4 @@
--- Document 01, "Captures": replay goes on until the first refusal, and answers with the place where it stopped.
+-- Document 01, "Captures", and request K1: replay goes on until the first refusal, and answers with the place where it stopped.
 use Prim.Native.Nat.{ℕ, _+_, _-_}
 use mathlib.Core.Bool.{Bool, true, false, not, _&&_}
 use mathlib.Core.List.{List, [], _∷_, _++_}
@@ -10,7 +10,7 @@ use Rattle.picture.specs.Refusals.{lentRefusal}
 use Rattle.calls.specs.State.{State}
 use Rattle.calls.specs.Calls.{Called}
 use Rattle.capture.specs.Record.{number}
-use Rattle.capture.specs.Capture.{Recorded, contents}
+use Rattle.capture.specs.Capture.{Recorded, Contents, contents}
 use Rattle.printed.specs.Text.{RecordAnswer, recordAnswer, line, hasRoom}
 use Rattle.records.specs.Records.{recordCalled}
 
@@ -70,8 +70,12 @@ recordsReplayed e last room (r ∷ rs) s frame place =
     else if eqb (k .number) 0 then afterAnswers (a ∷ []) on
     else halted s frame place (k .number) false
 
+-- what a panel reads of a capture: a record is what a panel with its time, or without, takes it for
+abbrev pub readBy : State → List ℕ → Contents
+readBy s capture = contents (s .control .time .timed) capture
+
 -- a replay from a number of accepted records on: refusals 1, 2, 3 before anything is read
 unfoldable pub replayed : Seen → Room → List ℕ → State → List ℕ → ℕ → Replayed
 replayed e room capture s frame place =
-    if eqb (lentRefusal e frame) 0 then recordsReplayed e (number (contents capture .stop)) room (contents capture .records) s frame place
+    if eqb (lentRefusal e frame) 0 then recordsReplayed e (number (readBy s capture .stop)) room (readBy s capture .records) s frame place
     else halted s frame place (lentRefusal e frame) false

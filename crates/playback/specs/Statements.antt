@@ -8,9 +8,8 @@ use lib.ListN.{length, take, drop}
 use Rattle.base.specs.Choice.{if_then_else_}
 use Rattle.picture.specs.Picture.{Seen}
 use Rattle.calls.specs.State.{State}
-use Rattle.capture.specs.Capture.{contents}
 use Rattle.printed.specs.Text.{lines}
-use Rattle.playback.specs.Replay.{Replayed, afterAnswers, Room, endless, bytes, roomBehind, ended, replayed}
+use Rattle.playback.specs.Replay.{Replayed, afterAnswers, Room, endless, bytes, roomBehind, ended, readBy, replayed}
 use Rattle.playback.specs.Transcript.{Told, transcribed}
 
 -- a replay that came to the end of its capture goes on with more of it, from where it stands, with the room that its lines left; one that
@@ -52,6 +51,6 @@ PartsTranscribeAsWhole =
 abbrev pub RoomTellsAll : Type 0
 RoomTellsAll =
     (e : Seen) (room : ℕ) (capture : List ℕ) (s : State) (frame : List ℕ) (place : ℕ)
-    → 29 * length (contents capture .records) ≤ room
-    → place + length (contents capture .records) < 2 ^ 64
+    → 29 * length (readBy s capture .records) ≤ room
+    → place + length (readBy s capture .records) < 2 ^ 64
     → replayed e (bytes room) capture s frame place ≡ replayed e endless capture s frame place

@@ -62,7 +62,8 @@ fn run(
     let mut at: usize = 0;
     let halt = loop {
         let step = capture::record_at(capture, at);
-        let answer = step.answer;
+        let stands = step.answer;
+        let answer = stands.taken_with(next.control.time.timed);
         let Answer::Record { kind, value } = answer else {
             break Halt {
                 place: reached,

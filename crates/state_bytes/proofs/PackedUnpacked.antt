@@ -1,5 +1,5 @@
 -- Controls in range are those that their bytes spell, so drawing from the bytes of a state draws the state.
-use Prim.Native.Nat.{ℕ, _<_}
+use Prim.Native.Nat.{ℕ, _+_, _*_, _<_}
 use mathlib.Core.Bool.{Bool, true, false}
 use mathlib.Core.List.{List, [], _∷_}
 use mathlib.Core.Path.{_≡_, refl}
@@ -12,7 +12,7 @@ use Rattle.controller.specs.declared.Waiting.{Waiting}
 use Rattle.controller.specs.declared.Waiting.the-variants.{Nothing, Row}
 use Rattle.controller.specs.declared.Control.{Control}
 use Rattle.controller.specs.State.{limit, RowInRange, InRange}
-use Rattle.state_bytes.specs.Packed.{flag, targetFrom, counterFrom, waitingFrom, placeFrom, viewFrom, unpacked, flagByte, targetByte, waitsByte, waitingByte, packed}
+use Rattle.state_bytes.specs.Packed.{flag, targetFrom, counterFrom, waitingFrom, placeFrom, viewFrom, unpacked, flagByte, targetByte, waitsByte, waitingByte, highByte, lowByte, packed}
 
 flag-read : (on : Bool) → flag (flagByte on) ≡ on
 flag-read true = refl
@@ -41,6 +41,10 @@ lines-read (a ∷ b ∷ c ∷ []) h = absurd (omega arith)
 lines-read (a ∷ b ∷ c ∷ d ∷ []) h = refl
 lines-read (a ∷ b ∷ c ∷ d ∷ e ∷ l) h = absurd (omega arith)
 
+-- a number is its two bytes
+remaining-read : (n : ℕ) → highByte n * 256 + lowByte n ≡ n
+remaining-read n = omega arith
+
 pub unpacked-packed : (c : Control) → InRange c → unpacked (packed c) ≡ c
 unfolding unpacked packed placeFrom viewFrom
 unpacked-packed c r =
@@ -53,4 +57,5 @@ unpacked-packed c r =
       mod-eq-of-lt (r .scroll),
       mod-eq-of-lt (r .shift),
       lines-read (c .view .reversed) (r .lines),
+      remaining-read (c .time .remaining),
     )

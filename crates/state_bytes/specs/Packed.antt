@@ -1,6 +1,7 @@
 -- The controls as bytes: target, counter, row, half next, dummy due, whether a row waits and which, I/D, S, display, cursor, blink,
--- DL, RE, G, SR, standby, scroll, shift, and the four reversed lines. A flag is bit 0 of its byte, a number the bits it has room for.
-use Prim.Native.Nat.{ℕ, _%_}
+-- DL, RE, G, SR, standby, scroll, shift, the four reversed lines, whether there is time, and the time that remains in two bytes, the high
+-- one first. A flag is bit 0 of its byte, a number the bits it has room for.
+use Prim.Native.Nat.{ℕ, _+_, _*_, _/_, _%_}
 use mathlib.Core.Bool.{Bool, false}
 use mathlib.Core.List.{List, [], _∷_}
 use lib.ListN.{getD}
@@ -12,6 +13,7 @@ use Rattle.controller.specs.declared.Waiting.{Waiting}
 use Rattle.controller.specs.declared.Waiting.the-variants.{Nothing, Row}
 use Rattle.controller.specs.declared.Place.{Place}
 use Rattle.controller.specs.declared.View.{View}
+use Rattle.controller.specs.declared.Time.{Time}
 use Rattle.controller.specs.declared.Control.{Control}
 
 abbrev pub flag : ℕ → Bool
@@ -28,6 +30,10 @@ counterFrom Graphic byte = byte % 16
 
 abbrev pub waitingFrom : Bool → ℕ → Waiting
 waitingFrom waits row = if waits then Row (row % 64) else Nothing
+
+-- the time that remains has 16 bits here, more than a panel's ever is
+abbrev pub timeFrom : ℕ → ℕ → ℕ → Time
+timeFrom timed high low = record { timed = flag timed; remaining = high * 256 + low }
 
 unfoldable pub placeFrom : List ℕ → Place
 placeFrom b =
@@ -58,6 +64,7 @@ unpacked b =
       sr = flag (getD b 15 0);
       view = viewFrom b;
       standby = flag (getD b 16 0);
+      time = timeFrom (getD b 23 0) (getD b 24 0) (getD b 25 0);
     }
 
 -- the same the other way: the controls as such bytes. A flag is 0 or 1
@@ -81,6 +88,13 @@ waitingByte (Row y) = y
 abbrev pub lineByte : View → ℕ → ℕ
 lineByte v line = flagByte (getD (v .reversed) line false)
 
+-- a number of 16 bits, as two
+abbrev pub highByte : ℕ → ℕ
+highByte number = number / 256
+
+abbrev pub lowByte : ℕ → ℕ
+lowByte number = number % 256
+
 unfoldable pub packed : Control → List ℕ
 packed c =
     targetByte (c .place .target) ∷ c .place .counter ∷ c .place .row ∷ flagByte (c .place .low) ∷ flagByte (c .place .dummy)
@@ -90,4 +104,5 @@ packed c =
     ∷ flagByte (c .function .dl) ∷ flagByte (c .function .re) ∷ flagByte (c .function .g)
     ∷ flagByte (c .sr) ∷ flagByte (c .standby)
     ∷ c .view .scroll ∷ c .view .shift
-    ∷ lineByte (c .view) 0 ∷ lineByte (c .view) 1 ∷ lineByte (c .view) 2 ∷ lineByte (c .view) 3 ∷ []
+    ∷ lineByte (c .view) 0 ∷ lineByte (c .view) 1 ∷ lineByte (c .view) 2 ∷ lineByte (c .view) 3
+    ∷ flagByte (c .time .timed) ∷ highByte (c .time .remaining) ∷ lowByte (c .time .remaining) ∷ []

@@ -1,4 +1,4 @@
-// The controls as 23 bytes and the link as 10, for what crosses the border to other languages.
+// The controls as 26 bytes and the link as 10, for what crosses the border to other languages.
 mod packing;
 mod unpacking;
 

@@ -8,7 +8,7 @@ use serial::Receiver;
 use serial::Sync;
 use table::Target;
 ghost use mathlib.Core.Path.{_≡_};
-ghost use Rattle.state_bytes.specs.Packed.{targetByte, waitsByte, waitingByte, packed};
+ghost use Rattle.state_bytes.specs.Packed.{targetByte, waitsByte, waitingByte, highByte, lowByte, packed};
 ghost use Rattle.state_bytes.specs.LinkPacked.{openBytes, pairingPacked, insideBytes, headerPacked, outsidePacked, receiverPacked, linkPacked};
 
 fn target_byte(target: Target) -> u8
@@ -39,8 +39,20 @@ fn waiting_byte(waiting: Waiting) -> u8
     }
 }
 
-// The controls as 23 bytes.
-pub fn pack(control: Control) -> [u8; 23]
+fn high_byte(number: u16) -> u8
+    ensures { λ r. ⌜ r ≡ highByte number ⌝ }
+{
+    (number / 256) as u8
+}
+
+fn low_byte(number: u16) -> u8
+    ensures { λ r. ⌜ r ≡ lowByte number ⌝ }
+{
+    (number % 256) as u8
+}
+
+// The controls as 26 bytes.
+pub fn pack(control: Control) -> [u8; 26]
     ensures { λ r. ⌜ r ≡ packed control ⌝ }
 {
     let place = control.place;
@@ -48,6 +60,7 @@ pub fn pack(control: Control) -> [u8; 23]
     let waiting = place.waiting;
     let view = control.view;
     let reversed = view.reversed;
+    let remaining = control.time.remaining;
     [
         target_byte(target),
         place.counter,
@@ -72,6 +85,9 @@ pub fn pack(control: Control) -> [u8; 23]
         reversed[1] as u8,
         reversed[2] as u8,
         reversed[3] as u8,
+        control.time.timed as u8,
+        high_byte(remaining),
+        low_byte(remaining),
     ]
 }
 

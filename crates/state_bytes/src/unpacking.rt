@@ -1,15 +1,16 @@
-// The controls that 23 bytes spell, in the order in which `unpacked` reads them. A byte that is out of range counts by the bits that it
+// The controls that 26 bytes spell, in the order in which `unpacked` reads them. A byte that is out of range counts by the bits that it
 // should have.
 use controller::Control;
 use controller::Entry;
 use controller::Function;
 use controller::Place;
 use controller::Shown;
+use controller::Time;
 use controller::View;
 use controller::Waiting;
 use table::Target;
 ghost use mathlib.Core.Path.{_≡_};
-ghost use Rattle.state_bytes.specs.Packed.{flag, targetFrom, counterFrom, waitingFrom, placeFrom, viewFrom, unpacked};
+ghost use Rattle.state_bytes.specs.Packed.{flag, targetFrom, counterFrom, waitingFrom, timeFrom, placeFrom, viewFrom, unpacked};
 
 fn flag(byte: u8) -> bool
     ensures { λ r. ⌜ r ≡ flag byte ⌝ }
@@ -49,7 +50,16 @@ fn waiting(waits: bool, row: u8) -> Waiting
     Waiting::Nothing
 }
 
-fn place(bytes: &[u8; 23]) -> Place
+fn time(timed: u8, high: u8, low: u8) -> Time
+    ensures { λ r. ⌜ r ≡ timeFrom timed high low ⌝ }
+{
+    Time {
+        timed: timed % 2 == 1,
+        remaining: high as u16 * 256 + low as u16,
+    }
+}
+
+fn place(bytes: &[u8; 26]) -> Place
     ensures { λ r. ⌜ r ≡ placeFrom (now (bytes .entry)) ⌝ }
 {
     let target = target(bytes[0]);
@@ -68,7 +78,7 @@ fn place(bytes: &[u8; 23]) -> Place
     }
 }
 
-fn view(bytes: &[u8; 23]) -> View
+fn view(bytes: &[u8; 26]) -> View
     ensures { λ r. ⌜ r ≡ viewFrom (now (bytes .entry)) ⌝ }
 {
     View {
@@ -83,11 +93,12 @@ fn view(bytes: &[u8; 23]) -> View
     }
 }
 
-pub fn unpack(bytes: &[u8; 23]) -> Control
+pub fn unpack(bytes: &[u8; 26]) -> Control
     ensures { λ r. ⌜ r ≡ unpacked (now (bytes .entry)) ⌝ }
 {
     let place = place(bytes);
     let view = view(bytes);
+    let time = time(bytes[23], bytes[24], bytes[25]);
     let id = flag(bytes[7]);
     let s = flag(bytes[8]);
     let display = flag(bytes[9]);
@@ -110,5 +121,6 @@ pub fn unpack(bytes: &[u8; 23]) -> Control
         sr,
         view,
         standby,
+        time,
     }
 }

@@ -33,4 +33,7 @@ pack-spec =
     (λ c. search needs)
     (λ c. search needs)
     (λ c. search needs)
-    (λ c. simp (flag-byte, c .before .before .before .before .before .before .before .before .before .before .waiting-byte .ensures, c .before .before .before .before .before .before .before .before .before .before .before .waits-byte .ensures, c .before .before .before .before .before .before .before .before .before .before .before .before .before .before .target-byte .ensures)))
+    (λ c. search needs)
+    (λ c κs. search needs)
+    (λ c κs. search needs)
+    (λ c. simp (flag-byte, c .low-byte .ensures, c .before .high-byte .ensures, c .before .before .before .before .before .before .before .before .before .before .before .before .before .waiting-byte .ensures, c .before .before .before .before .before .before .before .before .before .before .before .before .before .before .waits-byte .ensures, c .before .before .before .before .before .before .before .before .before .before .before .before .before .before .before .before .before .target-byte .ensures)))
