@@ -65,6 +65,10 @@ module _ (l : List ℕ) (i b c : ℕ) (h : i + 1 < length l) where
   second-back : getD (set (set l (i + 0) b) (i + 1) c) (i + 1) 0 ≡ c
   second-back = getD-set-same (set l (i + 0) b) (i + 1) c 0 (omega (arith, length-set l (i + 0) b))
 
+-- without time the busy bit is not set
+not-set : (n : ℕ) → 0 + n ≡ n
+not-set n = omega arith
+
 -- an address is the low bits of its instruction
 text-address : (sr : Bool) (t : Target) (a : ℕ) → a < 64 → said (record { re = false; sr = sr; target = t }) (0x80 + a) ≡ TextAddress a
 text-address sr t a h = says-text sr t (0x80 + a) (omega arith) (omega arith) ∙ ap TextAddress (omega arith)
@@ -113,9 +117,9 @@ module _ (q : Pairing) (entry : Entry) (shown : Shown) (g : Bool) where
         let two = written (one .memories) (one .done .control) c in
         let fits : 2 * a + 1 < length (m .text) = omega arith in
         to-text m p sr v standby a h (readStatus ∷ writeData b ∷ readStatus ∷ writeData c ∷ readStatus ∷ (toText a ++ (readData ∷ readData ∷ readData ∷ readStatus ∷ [])))
-        ∙ ap (λ (l : List ℕ). 0 ∷ a ∷ 0 ∷ a ∷ 0 ∷ stepped (entry .id) a ∷ l)
+        ∙ ap (λ (l : List ℕ). 0 ∷ (0 + a) ∷ 0 ∷ (0 + a) ∷ 0 ∷ (0 + stepped (entry .id) a) ∷ l)
         (to-text (two .memories) (two .done .control .place) sr (two .done .control .view) false a h (readData ∷ readData ∷ readData ∷ readStatus ∷ []))
-        ∙ rw (first-back (m .text) (2 * a) b c fits, second-back (m .text) (2 * a) b c fits)
+        ∙ rw (not-set a, not-set (stepped (entry .id) a), first-back (m .text) (2 * a) b c fits, second-back (m .text) (2 * a) b c fits)
 
     glyph-back :
         (a : ℕ) → a < 64 → length (m .glyph) ≡ 128
@@ -127,9 +131,9 @@ module _ (q : Pairing) (entry : Entry) (shown : Shown) (g : Bool) where
         let two = written (one .memories) (one .done .control) c in
         let fits : 2 * a + 1 < length (m .glyph) = omega arith in
         to-glyph m p sr v standby a h (readStatus ∷ writeData b ∷ readStatus ∷ writeData c ∷ readStatus ∷ (toGlyph a ++ (readData ∷ readData ∷ readData ∷ readStatus ∷ [])))
-        ∙ ap (λ (l : List ℕ). 0 ∷ a ∷ 0 ∷ a ∷ 0 ∷ stepped (entry .id) a ∷ l)
+        ∙ ap (λ (l : List ℕ). 0 ∷ (0 + a) ∷ 0 ∷ (0 + a) ∷ 0 ∷ (0 + stepped (entry .id) a) ∷ l)
         (to-glyph (two .memories) (two .done .control .place) sr (two .done .control .view) false a h (readData ∷ readData ∷ readData ∷ readStatus ∷ []))
-        ∙ rw (first-back (m .glyph) (2 * a) b c fits, second-back (m .glyph) (2 * a) b c fits)
+        ∙ rw (not-set a, not-set (stepped (entry .id) a), first-back (m .glyph) (2 * a) b c fits, second-back (m .glyph) (2 * a) b c fits)
 
     graphic-back :
         (row column : ℕ) → row < 64 → column < 16 → length (m .graphic) ≡ 2048
@@ -143,9 +147,9 @@ module _ (q : Pairing) (entry : Entry) (shown : Shown) (g : Bool) where
         let place = 32 * row + 2 * column in
         let fits : place + 1 < length (m .graphic) = omega arith in
         to-graphic m p sr v standby row column h k (readStatus ∷ writeData b ∷ readStatus ∷ writeData c ∷ readStatus ∷ (toGraphic row column ++ (readData ∷ readData ∷ readData ∷ readStatus ∷ [])))
-        ∙ ap (λ (l : List ℕ). 0 ∷ 0 ∷ column ∷ 0 ∷ column ∷ 0 ∷ (column + 1) % 16 ∷ l)
+        ∙ ap (λ (l : List ℕ). 0 ∷ 0 ∷ (0 + column) ∷ 0 ∷ (0 + column) ∷ 0 ∷ (0 + (column + 1) % 16) ∷ l)
         (to-graphic (two .memories) (two .done .control .place) sr (two .done .control .view) false row column h k (readData ∷ readData ∷ readData ∷ readStatus ∷ []))
-        ∙ rw (first-back (m .graphic) place b c fits, second-back (m .graphic) place b c fits)
+        ∙ rw (not-set column, not-set ((column + 1) % 16), first-back (m .graphic) place b c fits, second-back (m .graphic) place b c fits)
 
 -- a state that takes bytes, as the laws above have it
 as-bytes :
