@@ -23,6 +23,7 @@ use Rattle.links.specs.Sender.{sent}
 use Rattle.picture.proofs.Accepted.{draws}
 use Rattle.calls.specs.Calls.{Called, unlessOther}
 use Rattle.demands.proofs.Agreement.{call-is-connected, sent-is-received, writes-are-received, links-agree}
+use Rattle.demands.proofs.NoneLost.{carried-out-where-none-lost}
 use Rattle.demands.proofs.KeepDl.{function-sets-keep-dl}
 use Rattle.panel.specs.Handed.{handed}
 use Rattle.demands.specs.Demand2.{Run, yielded, SequencesAsDefined, SelectLowIdles, SendsThreeBytes, Demand2}
@@ -73,6 +74,7 @@ demand-2 =
       sends = sends-three-bytes;
       receives = sent-is-received;
       receivesAll = writes-are-received;
+      carriesOut = carried-out-where-none-lost;
       agrees = links-agree;
       keeps = function-sets-keep-dl;
     }

@@ -5,6 +5,7 @@ pub mod ButDl
 pub mod ItemCounts
 pub mod Agreement
 pub mod KeepDl
+pub mod NoneLost
 pub mod Timely
 pub mod Calm
 pub mod Tables

@@ -13,7 +13,7 @@ use Rattle.connector.specs.Connector.{Came, Comes, elsewhere, comes, eventAt, K
 use Rattle.picture.specs.Picture.{Seen}
 use Rattle.calls.specs.State.{State}
 use Rattle.calls.specs.Calls.{Called, refused, timeless, Fits, called, afterCalls}
-use Rattle.demands.specs.Wires.{numbersOf, countsOf, Board, boardOf, board, given, itemCounts, atLast, sumsOf, onLink, standing, Timely, items, withDl, HasWidth, SetsWidth}
+use Rattle.demands.specs.Wires.{numbersOf, countsOf, Board, boardOf, board, given, itemCounts, atLast, sumsOf, onLink, standing, Timely, NoneLost, allCarriedOut, items, withDl, HasWidth, SetsWidth}
 
 -- an accepted call leaves this board on its link, with its frame, and answers with this reply
 pub record Does (k : Called) (o : Came Board) : Type 0 where
@@ -65,6 +65,13 @@ WritesAreReceived =
     → Timely (s .control) list
     → KeepsDl (board e) way (boardOf s frame) list
     → ReceivedAsGiven e way s frame list
+
+-- Where none was lost, as on a panel without time, the bytes given are carried out, each at its cost.
+abbrev pub CarriedOutWhereNoneLost : Type 0
+CarriedOutWhereNoneLost =
+    (e : Seen) (s : State) (frame : List ℕ) (list : List Item)
+    → NoneLost e (boardOf s frame) list
+    → given e s frame list ≡ allCarriedOut e (boardOf s frame) list
 
 -- equal apart from link and DL
 pub record SameButLinkAndDl (s t : State) : Type 0 where

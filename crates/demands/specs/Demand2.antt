@@ -27,7 +27,7 @@ use Rattle.connector.specs.Statements.{HalvesReadWhole}
 use Rattle.demands.specs.Wires.{board}
 use Rattle.demands.specs.Stored.{WordsStored}
 use Rattle.demands.specs.ReadBack.{ReadBack}
-use Rattle.demands.specs.Agreement.{CallIsConnected, SentIsReceived, WritesAreReceived, LinksAgree, FunctionSetsKeepDl}
+use Rattle.demands.specs.Agreement.{CallIsConnected, SentIsReceived, WritesAreReceived, CarriedOutWhereNoneLost, LinksAgree, FunctionSetsKeepDl}
 use Rattle.panel.specs.declared.Panel.{Panel}
 use Rattle.panel.specs.declared.Outcome.{Outcome}
 use Rattle.panel.specs.Handed.{stateOf, handed}
@@ -122,6 +122,7 @@ pub record Demand2 : Type 0 where
   pub sends : SendsThreeBytes
   pub receives : SentIsReceived
   pub receivesAll : WritesAreReceived
+  pub carriesOut : CarriedOutWhereNoneLost
   -- one list of writes reaches one state over all three links, apart from link and DL, where it keeps each link's DL
   pub agrees : LinksAgree
   -- and it keeps the DL where bit 4 of every function set is that DL

@@ -33,8 +33,8 @@ readStatus = Transfer Status
 abbrev pub readData : Event
 readData = Transfer Read
 
-abbrev pub wait : ℕ → Event
-wait eights = Pass eights
+abbrev pub letPass : ℕ → Event
+letPass eights = Pass eights
 
 -- serial bytes, bit by bit with chip select high
 abbrev pub serialBytes : List ℕ → List Event
@@ -99,14 +99,14 @@ cases =
 -- and is lost. 5: so it is with a dummy read, which stays due
 unfoldable pub timedCases : List Case
 timedCases =
-    inTimedCase 1 (instruct 0x01 ∷ readStatus ∷ wait 199 ∷ readStatus ∷ wait 1 ∷ readStatus ∷ [])
+    inTimedCase 1 (instruct 0x01 ∷ readStatus ∷ letPass 199 ∷ readStatus ∷ letPass 1 ∷ readStatus ∷ [])
     (replies (0 ∷ 0x80 ∷ 0 ∷ 0x80 ∷ 0 ∷ 0x00 ∷ []) ∷ counts (1024 ∷ 0 ∷ 0 ∷ 0 ∷ 0 ∷ 0 ∷ []) ∷ [])
-    ∷ inTimedCase 2 (instruct 0x80 ∷ wait 9 ∷ writeData 0x2D ∷ wait 9 ∷ writeData 0x37 ∷ readStatus ∷ wait 9 ∷ readStatus ∷ [])
+    ∷ inTimedCase 2 (instruct 0x80 ∷ letPass 9 ∷ writeData 0x2D ∷ letPass 9 ∷ writeData 0x37 ∷ readStatus ∷ letPass 9 ∷ readStatus ∷ [])
     (textWord 0 0x2D37 ∷ replies (0 ∷ 0 ∷ 0 ∷ 0 ∷ 0 ∷ 0x81 ∷ 0 ∷ 0x01 ∷ []) ∷ counts (32 ∷ 0 ∷ 32 ∷ 0 ∷ 64 ∷ 0 ∷ 0 ∷ 0 ∷ []) ∷ [])
-    ∷ inTimedCase 3 (instruct 0x80 ∷ writeData 0x2D ∷ wait 9 ∷ writeData 0x37 ∷ [])
+    ∷ inTimedCase 3 (instruct 0x80 ∷ writeData 0x2D ∷ letPass 9 ∷ writeData 0x37 ∷ [])
     (textWord 0 0x3720 ∷ counts (32 ∷ 0 ∷ 0 ∷ 32 ∷ []) ∷ numbers (0 ∷ 0 ∷ 0 ∷ 0 ∷ []) ∷ [])
-    ∷ inTimedCase 4 (instruct 0x80 ∷ wait 9 ∷ readData ∷ readData ∷ wait 9 ∷ readData ∷ []) (replies (0 ∷ 0 ∷ 0x00 ∷ 0x00 ∷ 0 ∷ 0x20 ∷ []) ∷ [])
-    ∷ inTimedCase 5 (instruct 0x80 ∷ readData ∷ wait 9 ∷ readData ∷ wait 9 ∷ readData ∷ []) (replies (0 ∷ 0x00 ∷ 0 ∷ 0x00 ∷ 0 ∷ 0x20 ∷ []) ∷ [])
+    ∷ inTimedCase 4 (instruct 0x80 ∷ letPass 9 ∷ readData ∷ readData ∷ letPass 9 ∷ readData ∷ []) (replies (0 ∷ 0 ∷ 0x00 ∷ 0x00 ∷ 0 ∷ 0x20 ∷ []) ∷ [])
+    ∷ inTimedCase 5 (instruct 0x80 ∷ readData ∷ letPass 9 ∷ readData ∷ letPass 9 ∷ readData ∷ []) (replies (0 ∷ 0x00 ∷ 0 ∷ 0x00 ∷ 0 ∷ 0x20 ∷ []) ∷ [])
     ∷ []
 
 -- seen with a zero half font, an empty full font and phase 0; each row's frame is zero too

@@ -10,11 +10,13 @@ use Rattle.controller.specs.declared.Time.{Time}
 use Rattle.controller.specs.declared.Control.{Control}
 use Rattle.controller.specs.Memories.{Memories}
 use Rattle.controller.specs.Instructions.{withFunction}
-use Rattle.deeds.specs.Transfers.{Acted, performed}
+use Rattle.deeds.specs.Time.{busy, cost}
+use Rattle.deeds.specs.Transfers.{Acted, acted, carriedOut, atCost, performed}
 use Rattle.events.specs.declared.Event.{Event}
 use Rattle.events.specs.declared.Event.the-variants as event
 use Rattle.events.specs.declared.Deed.the-variants as deeds
 use Rattle.links.specs.declared.Link.{Link}
+use Rattle.links.specs.Halves.{writing}
 use Rattle.links.specs.Taken.{takenBy}
 use Rattle.events.specs.declared.Transfer.{Transfer}
 use Rattle.events.specs.declared.Transfer.the-variants.{Instruct, Write, Status, Read}
@@ -125,6 +127,24 @@ unfoldable pub Timely : Control → List Item → Type 0
 Timely c [] = Unit {0}
 Timely c (write w ∷ items) = Timely c items
 Timely c (besideWires x ∷ items) = (timeless c (x .event) ≡ false) × Timely c items
+
+-- none of a list's writes is lost: each finds the panel not busy
+unfoldable pub NoneLost : Seen → Board → List Item → Type 0
+NoneLost e b [] = Unit {0}
+NoneLost e b (write w ∷ items) = (busy (b .control) ≡ false) × NoneLost e (board e .perform b (deed (write w)) .state) items
+NoneLost e b (besideWires x ∷ items) = NoneLost e (board e .perform b (x .deed) .state) items
+
+-- a write carried out as document 01 says, at its cost
+abbrev pub writeCarriedOut : Board → Transfer → Acted
+writeCarriedOut b t =
+    let a : Acted = carriedOut (b .memories) (b .control) t in
+    acted (a .memories) (atCost (cost (b .control) t) (a .done))
+
+-- and so are all of a list, in order
+unfoldable pub allCarriedOut : Seen → Board → List Item → Board
+allCarriedOut e b [] = b
+allCarriedOut e b (write w ∷ items) = allCarriedOut e (boardAfter e b (writeCarriedOut b (writing (w .register) (w .byte)))) items
+allCarriedOut e b (besideWires x ∷ items) = allCarriedOut e (board e .perform b (x .deed) .state) items
 
 -- a list with nothing but writes
 abbrev pub items : List WholeWrite → List Item
