@@ -1,5 +1,5 @@
--- What holds of every call: it hands on a valid state, a refused one changes nothing, the frame keeps its length, and no count passes
--- that of its bytes. An accepted one by what each deed keeps, a refused one as it was.
+-- What holds of every call: it hands on a valid state, with or without time as it was; a refused one changes nothing, the frame keeps its
+-- length, and no count passes that of its bytes. An accepted one by what each deed keeps, a refused one as it was.
 use Prim.Native.Nat.{ℕ, _≤_}
 use mathlib.Core.List.{List}
 use mathlib.Core.Path.{_≡_, refl, sym, subst}
@@ -13,6 +13,7 @@ use Rattle.controller.specs.Memories.{Memories}
 use Rattle.controller.specs.State as controls
 use Rattle.deeds.specs.Transfers.{performed}
 use Rattle.deeds.proofs.Kept.{fresh-valid, performed-valid}
+use Rattle.deeds.proofs.Untimed.{performed-timed}
 use Rattle.events.specs.declared.Event.{Event}
 use Rattle.events.specs.declared.Event.the-variants.{Reset}
 use Rattle.events.specs.declared.Made.{Made}
@@ -66,6 +67,11 @@ Unmoved s frame k = (k .number ≡ 0 → ⊥) → k ≡ refused s frame (k .numb
 module _ (e : Seen) (s : State) (frame : List ℕ) (event : Event) where
   pub called-unmoved : Unmoved s frame (called e s frame event)
   called-unmoved = of-call (Unmoved s frame) e s frame event (λ n h. refl) (λ c h. absurd (h refl))
+
+  pub called-timed : called e s frame event .state .control .time .timed ≡ s .control .time .timed
+  called-timed =
+      of-call (λ (k : Called). k .state .control .time .timed ≡ s .control .time .timed) e s frame event (λ n. refl)
+      (λ c. performed-timed (s .memories) (s .control) (c .deed))
 
   pub called-count : called e s frame event .count ≤ 1024
   unfolding countNamed

@@ -1,5 +1,5 @@
--- A transfer leaves the time alone but for its cost; and without time nothing is lost and nothing costs: every transfer is carried out as
--- it was before there was time.
+-- A transfer leaves the time alone but for its cost, and nothing that reaches the controller changes whether there is time; and without
+-- time nothing is lost and nothing costs: every transfer is carried out as it was before there was time.
 use Prim.Native.Nat.{ℕ, _≤_}
 use mathlib.Core.Bool.{Bool, true, false, _&&_}
 use mathlib.Core.Path.{_≡_, refl, ap, subst, _∙_}
@@ -12,15 +12,17 @@ use Rattle.table.specs.declared.Instruction.{Instruction}
 use Rattle.table.specs.declared.Instruction.the-variants.{Ignored, Clear, Home, EntryMode, Display, MoveCursor, MoveDisplay, FunctionSet, GlyphAddress, TextAddress, Standby, SetSr, ToggleReverse, Scroll, GraphicAddress}
 use Rattle.events.specs.declared.Transfer.{Transfer}
 use Rattle.events.specs.declared.Transfer.the-variants.{Instruct, Write, Status, Read}
+use Rattle.events.specs.declared.Deed.{Deed}
+use Rattle.events.specs.declared.Deed.the-variants as deed
 use Rattle.controller.specs.declared.Time.{Time}
 use Rattle.controller.specs.declared.Control.{Control}
 use Rattle.controller.specs.Memories.{Memories}
-use Rattle.controller.specs.State.{longest, InRange}
+use Rattle.controller.specs.State.{freshControl, longest, InRange}
 use Rattle.controller.specs.Instructions.{withTime, obeyed, modes}
 use Rattle.controller.specs.Data.{movedOn}
 use Rattle.deeds.specs.declared.Done.{Done}
 use Rattle.deeds.specs.Time.{busy, lost, cost, charged}
-use Rattle.deeds.specs.Transfers.{Acted, acted, executed, written, readOut, statusRead, carriedOut, nothingDone, atCost, onTime}
+use Rattle.deeds.specs.Transfers.{Acted, acted, executed, written, readOut, statusRead, carriedOut, nothingDone, atCost, onTime, performed}
 
 -- what is carried out leaves the time
 
@@ -48,6 +50,16 @@ carriedOut-time m c (Instruct byte) = obeyed-time c (said (modes c) byte)
 carriedOut-time m c (Write byte) = refl
 carriedOut-time m c Status = refl
 carriedOut-time m c Read = either (λ (d : Done). d .control .time ≡ c .time) (c .place .dummy) refl refl
+
+-- whether there is time stays: fresh too has what it is made with
+pub performed-timed :
+    (m : Memories) (c : Control) (d : Deed) → performed m c d .done .control .time .timed ≡ c .time .timed
+unfolding performed onTime freshControl
+performed-timed m c deed.Nothing = refl
+performed-timed m c (deed.Whole t) =
+    either (λ (a : Acted). a .done .control .time .timed ≡ c .time .timed) (lost c t) refl (ap (λ (t : Time). t .timed) (carriedOut-time m c t))
+performed-timed m c (deed.Fresh pin) = refl
+performed-timed m c (deed.Pass eights) = refl
 
 -- without time
 
