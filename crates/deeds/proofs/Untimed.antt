@@ -63,7 +63,7 @@ performed-timed m c (deed.Pass eights) = refl
 
 -- without time
 
-not-busy : (c : Control) → InRange c → c .time .timed ≡ false → busy c ≡ false
+pub not-busy : (c : Control) → InRange c → c .time .timed ≡ false → busy c ≡ false
 not-busy c r e =
     let none : c .time .remaining ≡ 0 = omega (arith, subst (λ (b : Bool). c .time .remaining ≤ longest b) e (r .remaining)) in
     ap (ltb 0) none
