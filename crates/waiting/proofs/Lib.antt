@@ -1,3 +1,4 @@
 pub mod Unnamed
 pub mod Lost
 pub mod WithoutTime
+pub mod Waiting

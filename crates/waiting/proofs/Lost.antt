@@ -22,7 +22,6 @@ use Rattle.events.specs.declared.Event.the-variants.{Bit, SelectLow, Reset, Pas
 use Rattle.events.specs.declared.Event.the-variants as event
 use Rattle.events.specs.declared.Transfer.{Transfer}
 use Rattle.events.specs.declared.Transfer.the-variants.{Instruct, Write, Status, Read}
-use Rattle.events.specs.declared.Deed.{Deed}
 use Rattle.events.specs.declared.Deed.the-variants as deed
 use Rattle.links.specs.declared.Link.{Link}
 use Rattle.links.specs.declared.Link.the-variants.{Parallel, Serial}
@@ -37,9 +36,9 @@ use Rattle.links.specs.Halves.{writeHalf, readHalf, paired}
 use Rattle.links.specs.Taken.{byWidth, takenBy, replied}
 use Rattle.picture.specs.Picture.{Seen}
 use Rattle.calls.specs.State.{State, state}
-use Rattle.calls.specs.Calls.{Called, refused, accepted, unlessOther, takenOn, reaching, timeless, Fits, called}
+use Rattle.calls.specs.Calls.{Called, refused, accepted, unlessOther, takenOn, reaching, unlessTimeless, Fits, called}
 use Rattle.calls.proofs.Kept.{admitted, called-timed}
-use Rattle.waiting.specs.Lost.{LostWhenBusy, Brings, LostLeavesAll, apartFromTime, CarriedOutAtCost, CarriedOutUnlessLost, StatusShowsBusy, PassFalls, TimeIsKept}
+use Rattle.waiting.specs.Lost.{LostWhenBusy, Brings, LostLeavesAll, apartFromTime, CarriedOutUnlessLost, StatusShowsBusy, PassFalls, TimeIsKept}
 use Rattle.waiting.proofs.Unnamed.{unnamed-accepted}
 
 busy-lost : (c : Control) (t : Transfer) → t ≢ Status → busy c ≡ true ↔ (0 < c .time .remaining) × (t ≢ Status)
@@ -52,22 +51,26 @@ lost-when-busy c Status = (λ h. absurd (true≢false (sym h)), λ h. absurd (h 
 lost-when-busy c Read = busy-lost c Read (λ h. true≢false cc)
 
 -- what brings a transfer is not that time passes
-brings-in-time : (s : State) (call : Event) (t : Transfer) (rest : Rest) → Brings s call t rest → timeless (s .control) call ≡ false
+brings-in-time :
+    (e : Seen) (s : State) (frame : List ℕ) (call : Event) (t : Transfer) (rest : Rest)
+    → Brings s call t rest
+    → unlessTimeless e s frame call ≡ unlessOther e s frame (takenOn s call)
 unfolding takenBy
-brings-in-time s (event.Transfer u) t rest b = refl
-brings-in-time s (Bit bit) t rest b = refl
-brings-in-time s SelectLow t rest b = refl
-brings-in-time s (Reset pin) t rest b = refl
-brings-in-time s (Pass value) t rest b = let same : deed.Pass value ≡ deed.Whole t = ap reaching b in absurd (true≢false cc)
+brings-in-time e s frame (event.Transfer u) t rest b = refl
+brings-in-time e s frame (Bit bit) t rest b = refl
+brings-in-time e s frame SelectLow t rest b = refl
+brings-in-time e s frame (Reset pin) t rest b = refl
+brings-in-time e s frame (Pass value) t rest b = let same : deed.Pass value ≡ deed.Whole t = ap reaching b in absurd (true≢false cc)
 
-module _ (e : Seen) (s : State) (frame : List ℕ) (call : Event) (t : Transfer) (rest : Rest) (h : Fits e frame) (b : Brings s call t rest) where
-  -- the transfer is done, lost or not
-  brought : called e s frame call ≡ accepted e frame (onTime (s .memories) (s .control) t) rest
-  unfolding performed
-  brought =
-      admitted e s frame call h
-      ∙ ap (λ (x : Bool). if x then refused s frame 8 else unlessOther e s frame (takenOn s call)) (brings-in-time s call t rest b)
-      ∙ ap (unlessOther e s frame) b
+-- the transfer is done, lost or not
+brought :
+    (e : Seen) (s : State) (frame : List ℕ) (call : Event) (t : Transfer) (rest : Rest)
+    → Fits e frame
+    → Brings s call t rest
+    → called e s frame call ≡ accepted e frame (onTime (s .memories) (s .control) t) rest
+unfolding performed
+brought e s frame call t rest h b =
+    admitted e s frame call h ∙ brings-in-time e s frame call t rest b ∙ ap (unlessOther e s frame) b
 
 -- with an answer of 0 the reply is 0, whole or halved: what hands over a kept reply brings no transfer
 abbrev ZeroBack : Carried → Type 0

@@ -4,7 +4,7 @@ use mathlib.Core.Bool.{Bool, true, false, not, true≢false}
 use mathlib.Core.List.{List}
 use mathlib.Core.Path.{_≡_, refl, ap, _∙_}
 use native.Mathlib.Omega.{arith}
-use lib.Dec.{eqb}
+use lib.Dec.{eqb, ltb}
 use borrow.Author.Tests.{ltb-false}
 use Rattle.base.specs.Choice.{if_then_else_}
 use Rattle.controller.specs.declared.Control.{Control}
@@ -28,17 +28,20 @@ use Rattle.links.specs.declared.Taken.the-variants.{OtherLink, Carries}
 use Rattle.picture.specs.Picture.{Seen}
 use Rattle.picture.specs.Refusals.{lentRefusal}
 use Rattle.calls.specs.State.{State}
-use Rattle.calls.specs.Calls.{Called, refused, accepted, unlessOther, takenOn, timeless, called}
+use Rattle.calls.specs.Calls.{Called, refused, accepted, unlessOther, takenOn, unlessTimeless, called}
 use Rattle.calls.proofs.Kept.{admitted}
 use Rattle.waiting.specs.WithoutTime.{isPass, carriedOutBefore, performedBefore, unlessOtherBefore, calledBefore, AsBeforeTime, NoTimePasses}
 
 -- a call of document 01 does not ask for time
-pub in-time : (c : Control) (call : Event) → isPass call ≡ false → timeless c call ≡ false
-in-time c (event.Transfer t) h = refl
-in-time c (Bit bit) h = refl
-in-time c SelectLow h = refl
-in-time c (Reset pin) h = refl
-in-time c (Pass value) h = absurd (true≢false h)
+pub in-time :
+    (e : Seen) (s : State) (frame : List ℕ) (call : Event)
+    → isPass call ≡ false
+    → unlessTimeless e s frame call ≡ unlessOther e s frame (takenOn s call)
+in-time e s frame (event.Transfer t) h = refl
+in-time e s frame (Bit bit) h = refl
+in-time e s frame SelectLow h = refl
+in-time e s frame (Reset pin) h = refl
+in-time e s frame (Pass value) h = absurd (true≢false h)
 
 module _ (m : Memories) (c : Control) (idle : busy c ≡ false) where
   carried-before : (t : Transfer) → carriedOut m c t ≡ carriedOutBefore m c t
@@ -46,15 +49,17 @@ module _ (m : Memories) (c : Control) (idle : busy c ≡ false) where
   carried-before (Instruct byte) = refl
   carried-before (Write byte) = refl
   carried-before Status =
+      let counted : 0 + c .place .counter ≡ c .place .counter = omega arith in
       ap (λ (b : Bool). acted m (record { control = c; reply = (if b then 0x80 else 0) + c .place .counter; region = region.Nothing })) idle
-      ∙ ap (λ (n : ℕ). acted m (record { control = c; reply = n; region = region.Nothing })) (let q : 0 + c .place .counter ≡ c .place .counter = omega arith in q)
+      ∙ ap (λ (n : ℕ). acted m (record { control = c; reply = n; region = region.Nothing })) counted
   carried-before Read = refl
 
-  -- where nothing remains nothing passes
-  none-passes : (value : ℕ) → elapsed value (c .time) ≡ c .time
-  none-passes value =
-      let none = ltb-false 0 (c .time .remaining) idle in
-      ap (λ (n : ℕ). record { timed = c .time .timed; remaining = n }) (let q : c .time .remaining - value * 8 ≡ c .time .remaining = omega (arith, none) in q)
+-- where nothing remains nothing passes
+pub none-passes : (value : ℕ) (t : Time) → ltb 0 (t .remaining) ≡ false → elapsed value t ≡ t
+none-passes value t h =
+    let none = ltb-false 0 (t .remaining) h in
+    let same : t .remaining - value * 8 ≡ t .remaining = omega (arith, none) in
+    ap (λ (n : ℕ). record { timed = t .timed; remaining = n }) same
 
 module _ (m : Memories) (c : Control) (r : InRange c) (e : c .time .timed ≡ false) where
   performed-before : (d : Deed) → performed m c d ≡ performedBefore m c d
@@ -63,14 +68,13 @@ module _ (m : Memories) (c : Control) (r : InRange c) (e : c .time .timed ≡ fa
   performed-before (deed.Whole t) = untimed m c t r e ∙ carried-before m c (not-busy c r e) t
   performed-before (deed.Fresh pin) = refl
   performed-before (deed.Pass value) =
-      ap (λ (t : Time). acted m (nothingDone (withTime t c))) (none-passes m c (not-busy c r e) value)
+      ap (λ (t : Time). acted m (nothingDone (withTime t c))) (none-passes value (c .time) (not-busy c r e))
 
 pub as-before-time : AsBeforeTime
 unfolding called calledBefore
 as-before-time e s frame call v u p =
     ap (λ (k : Called). if eqb (lentRefusal e frame) 0 then k else refused s frame (lentRefusal e frame))
-    (ap (λ (x : Bool). if x then refused s frame 8 else unlessOther e s frame (takenOn s call)) (in-time (s .control) call p)
-    ∙ by (takenOn s call))
+    (in-time e s frame call p ∙ by (takenOn s call))
   where
     by : (t : Taken) → unlessOther e s frame t ≡ unlessOtherBefore e s frame t
     by OtherLink = refl

@@ -1,2 +1,4 @@
+pub mod Answers
 pub mod Lost
 pub mod WithoutTime
+pub mod Waiting

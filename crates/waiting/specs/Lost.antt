@@ -1,7 +1,7 @@
 -- Request K1, "busy flag, with time", on demand 2: which transfers a busy panel loses, what a lost one leaves, and what every other one does.
 -- Each statement is proved in proofs/, under its own name in small letters (`LostLeavesAll` as `lost-leaves-all`).
 use Prim.Native.Nat.{ℕ, _+_, _*_, _-_, _<_}
-use mathlib.Core.Bool.{Bool, true, false}
+use mathlib.Core.Bool.{true, false}
 use mathlib.Core.List.{List}
 use mathlib.Core.Logic.{_↔_, _≢_}
 use mathlib.Core.Path.{_≡_}
