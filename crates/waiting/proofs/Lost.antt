@@ -10,13 +10,18 @@ use lib.Dec.{ltb}
 use borrow.Author.Tests.{ltb-true, lt-ltb}
 use Rattle.base.specs.Choice.{if_then_else_}
 use Rattle.base.proofs.Choice.{either}
+use Rattle.table.specs.declared.Instruction.{Instruction}
+use Rattle.table.specs.declared.Instruction.the-variants.{Ignored, Clear, Home, EntryMode, Display, MoveCursor, MoveDisplay, FunctionSet, GlyphAddress, TextAddress, Standby, SetSr, ToggleReverse, Scroll, GraphicAddress}
+use Rattle.table.specs.Table.{said}
+use Rattle.table.specs.Touches.{touches}
 use Rattle.controller.specs.declared.Time.{Time}
 use Rattle.controller.specs.declared.Control.{Control}
 use Rattle.controller.specs.Memories.{Memories}
-use Rattle.controller.specs.Instructions.{withTime}
-use Rattle.deeds.specs.Time.{busy, busyBit, lost, cost, charged, elapsed}
+use Rattle.controller.specs.State.{freshControl}
+use Rattle.controller.specs.Instructions.{withTime, modes}
+use Rattle.deeds.specs.Time.{busy, busyBit, lost, instructionCost, cost, charged, elapsed}
 use Rattle.deeds.specs.Transfers.{Acted, acted, statusRead, carriedOut, nothingDone, atCost, onTime, performed}
-use Rattle.deeds.proofs.Untimed.{carriedOut-time}
+use Rattle.deeds.proofs.Untimed.{carriedOut-time, unlost-acted, uncharged}
 use Rattle.events.specs.declared.Event.{Event}
 use Rattle.events.specs.declared.Event.the-variants.{Bit, SelectLow, Reset, Pass}
 use Rattle.events.specs.declared.Event.the-variants as event
@@ -35,10 +40,10 @@ use Rattle.links.specs.declared.Taken.the-variants.{OtherLink, Carries}
 use Rattle.links.specs.Halves.{writeHalf, readHalf, paired}
 use Rattle.links.specs.Taken.{byWidth, takenBy, replied}
 use Rattle.picture.specs.Picture.{Seen}
-use Rattle.calls.specs.State.{State, state}
+use Rattle.calls.specs.State.{State, state, freshState}
 use Rattle.calls.specs.Calls.{Called, refused, accepted, unlessOther, takenOn, reaching, unlessTimeless, Fits, called}
 use Rattle.calls.proofs.Kept.{admitted, called-timed}
-use Rattle.waiting.specs.Lost.{LostWhenBusy, Brings, LostLeavesAll, apartFromTime, CarriedOutUnlessLost, StatusShowsBusy, PassFalls, TimeIsKept}
+use Rattle.waiting.specs.Lost.{LostWhenBusy, Costs, Brings, LostLeavesAll, apartFromTime, CarriedOutUnlessLost, StatusShowsBusy, PassFalls, TimeIsKept, FreshIsNotBusy}
 use Rattle.waiting.proofs.Unnamed.{unnamed-accepted}
 
 busy-lost : (c : Control) (t : Transfer) → t ≢ Status → busy c ≡ true ↔ (0 < c .time .remaining) × (t ≢ Status)
@@ -49,6 +54,34 @@ lost-when-busy c (Instruct byte) = busy-lost c (Instruct byte) (λ h. true≢fal
 lost-when-busy c (Write byte) = busy-lost c (Write byte) (λ h. true≢false cc)
 lost-when-busy c Status = (λ h. absurd (true≢false (sym h)), λ h. absurd (h .1 refl))
 lost-when-busy c Read = busy-lost c Read (λ h. true≢false cc)
+
+other-costs : (i : Instruction) → i ≢ Ignored → i ≢ Clear → instructionCost (touches i) ≡ 72
+other-costs Ignored h k = absurd (h refl)
+other-costs Clear h k = absurd (k refl)
+other-costs Home h k = refl
+other-costs (EntryMode id s) h k = refl
+other-costs (Display display cursor blink) h k = refl
+other-costs (MoveCursor right) h k = refl
+other-costs (MoveDisplay right) h k = refl
+other-costs (FunctionSet dl re g) h k = refl
+other-costs (GlyphAddress a) h k = refl
+other-costs (TextAddress a) h k = refl
+other-costs Standby h k = refl
+other-costs (SetSr sr) h k = refl
+other-costs (ToggleReverse line) h k = refl
+other-costs (Scroll rows) h k = refl
+other-costs (GraphicAddress a) h k = refl
+
+pub costs : Costs
+costs =
+    record {
+      clear = λ c byte h. ap (λ (i : Instruction). instructionCost (touches i)) h;
+      executed = λ c byte h k. other-costs (said (modes c) byte) h k;
+      ignored = λ c byte h. ap (λ (i : Instruction). instructionCost (touches i)) h;
+      write = λ c byte. refl;
+      read = λ c. refl;
+      status = λ c. refl;
+    }
 
 -- what brings a transfer is not that time passes
 brings-in-time :
@@ -115,18 +148,11 @@ taken-zero dl link (Pass value) = λ u h. refl
 reply-zero : (s : State) (call : Event) (t : Transfer) (rest : Rest) → Brings s call t rest → replied rest 0 .reply ≡ 0
 reply-zero s call t rest b = subst ZeroTaken b (taken-zero (s .control .function .dl) (s .link) call) t refl
 
-module _ (m : Memories) (c : Control) (t : Transfer) where
-  lost-acted : lost c t ≡ true → onTime m c t ≡ acted m (nothingDone c)
-  unfolding onTime
-  lost-acted l =
-      let out : Acted = carriedOut m c t in
-      ap (λ (x : Bool). if x then acted m (nothingDone c) else acted (out .memories) (atCost (cost c t) (out .done))) l
-
-  pub unlost-acted : lost c t ≡ false → onTime m c t ≡ acted (carriedOut m c t .memories) (atCost (cost c t) (carriedOut m c t .done))
-  unfolding onTime
-  unlost-acted l =
-      let out : Acted = carriedOut m c t in
-      ap (λ (x : Bool). if x then acted m (nothingDone c) else acted (out .memories) (atCost (cost c t) (out .done))) l
+lost-acted : (m : Memories) (c : Control) (t : Transfer) → lost c t ≡ true → onTime m c t ≡ acted m (nothingDone c)
+unfolding onTime
+lost-acted m c t l =
+    let out : Acted = carriedOut m c t in
+    ap (λ (x : Bool). if x then acted m (nothingDone c) else acted (out .memories) (atCost (cost c t) (out .done))) l
 
 pub lost-leaves-all : LostLeavesAll
 lost-leaves-all e s frame call t rest h b l =
@@ -139,9 +165,6 @@ lost-leaves-all e s frame call t rest h b l =
 -- what a cost makes of the time
 charged-costs : (n : ℕ) (t : Time) → t .timed ≡ true → 0 < n → charged n t .remaining ≡ n
 charged-costs n t e h = rw (e, lt-ltb 0 n h)
-
-charged-untimed : (n : ℕ) (t : Time) → t .timed ≡ false → charged n t .remaining ≡ t .remaining
-charged-untimed n t e = rw e
 
 charged-none : (t : Time) → charged 0 t ≡ t
 charged-none t = ap (λ (n : ℕ). record { timed = t .timed; remaining = n }) (by (t .timed) (t .remaining))
@@ -163,7 +186,7 @@ carried-out-unless-lost e s frame call t rest h b l =
       does = ap apartFromTime is;
       busyFor = λ timed costs. remains ∙ charged-costs n (s .control .time) timed costs;
       costless = λ none. remains ∙ ap (λ (k : ℕ). charged k (s .control .time) .remaining) none ∙ ap (λ (x : Time). x .remaining) (charged-none (s .control .time));
-      untimed = λ timed. remains ∙ charged-untimed n (s .control .time) timed;
+      untimed = λ none. remains ∙ ap (λ (x : Time). x .remaining) (uncharged n (s .control .time) none);
     }
 
 -- a status read is never lost, and costs nothing
@@ -218,3 +241,7 @@ pass-falls e s frame value h e-timed =
 
 pub time-is-kept : TimeIsKept
 time-is-kept e s frame call = called-timed e s frame call
+
+pub fresh-is-not-busy : FreshIsNotBusy
+unfolding freshState freshControl
+fresh-is-not-busy made = refl

@@ -18,8 +18,9 @@ use Rattle.controller.specs.State.{freshControl, longest}
 use Rattle.controller.specs.Instructions.{withTime, obeyed, modes}
 use Rattle.controller.specs.Data.{movedOn}
 use Rattle.controller.specs.Named.{instructionNames, writeNames, readNames}
-use Rattle.deeds.specs.Time.{busy, lost, cost}
+use Rattle.deeds.specs.Time.{busy, cost}
 use Rattle.deeds.specs.Transfers.{Acted, acted, obeyedActed, executed, written, readOut, statusRead, carriedOut, nothingDone, atCost, performed}
+use Rattle.deeds.proofs.Untimed.{never-lost, unlost-acted}
 use Rattle.events.specs.declared.Event.{Event}
 use Rattle.events.specs.declared.Transfer.{Transfer}
 use Rattle.events.specs.declared.Transfer.the-variants.{Instruct, Write, Status, Read}
@@ -35,7 +36,7 @@ use Rattle.waiting.specs.Answers.{answers, numbersOf, countsOf}
 use Rattle.waiting.specs.Lost.{noTime, withoutTime, apartFromTime}
 use Rattle.waiting.specs.WithoutTime.{isPass}
 use Rattle.waiting.specs.Waiting.{repliesOf, spaced, wait, NonePass, WaitingIsServed}
-use Rattle.waiting.proofs.Lost.{unlost-acted, pass-falls}
+use Rattle.waiting.proofs.Lost.{pass-falls}
 use Rattle.waiting.proofs.WithoutTime.{in-time, none-passes}
 
 -- what a transfer leaves, apart from the time
@@ -75,25 +76,13 @@ module _ (m : Memories) (c : Control) where
     carried-apart Status = rw idle
     carried-apart Read = read-apart
 
-    unlost : (t : Transfer) → lost c t ≡ false
-    unlost (Instruct byte) = idle
-    unlost (Write byte) = idle
-    unlost Status = refl
-    unlost Read = idle
-
     performed-apart : (d : Deed) → performed m (withTime noTime c) d ≡ actedApart (performed m c d)
     unfolding performed freshControl
     performed-apart deed.Nothing = refl
     performed-apart (deed.Whole t) =
-        unlost-acted m (withTime noTime c) t (free t)
+        unlost-acted m (withTime noTime c) t (never-lost (withTime noTime c) t refl)
         ∙ ap (λ (a : Acted). acted (a .memories) (atCost (cost (withTime noTime c) t) (a .done))) (carried-apart t)
-        ∙ sym (ap actedApart (unlost-acted m c t (unlost t)))
-      where
-        free : (t : Transfer) → lost (withTime noTime c) t ≡ false
-        free (Instruct byte) = refl
-        free (Write byte) = refl
-        free Status = refl
-        free Read = refl
+        ∙ sym (ap actedApart (unlost-acted m c t (never-lost c t idle)))
     performed-apart (deed.Fresh pin) = refl
     performed-apart (deed.Pass value) = ap (λ (t : Time). acted m (nothingDone (withTime t c))) (none-passes value noTime refl)
 

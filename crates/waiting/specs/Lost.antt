@@ -6,16 +6,19 @@ use mathlib.Core.List.{List}
 use mathlib.Core.Logic.{_↔_, _≢_}
 use mathlib.Core.Path.{_≡_}
 use Rattle.base.specs.Choice.{if_then_else_}
+use Rattle.table.specs.declared.Instruction.the-variants.{Ignored, Clear}
+use Rattle.table.specs.Table.{said}
 use Rattle.controller.specs.declared.Time.{Time}
 use Rattle.controller.specs.declared.Control.{Control}
-use Rattle.controller.specs.Instructions.{withTime}
+use Rattle.controller.specs.Instructions.{withTime, modes}
 use Rattle.deeds.specs.Time.{busy, lost, cost}
 use Rattle.deeds.specs.Transfers.{carriedOut}
 use Rattle.events.specs.declared.Event.{Event}
 use Rattle.events.specs.declared.Event.the-variants.{Pass}
 use Rattle.events.specs.declared.Event.the-variants as event
 use Rattle.events.specs.declared.Transfer.{Transfer}
-use Rattle.events.specs.declared.Transfer.the-variants.{Status}
+use Rattle.events.specs.declared.Transfer.the-variants.{Instruct, Write, Status, Read}
+use Rattle.events.specs.declared.Made.{Made}
 use Rattle.events.specs.declared.Deed.the-variants.{Whole}
 use Rattle.links.specs.declared.Link.the-variants.{Parallel}
 use Rattle.links.specs.declared.Pairing.{Pairing}
@@ -23,19 +26,29 @@ use Rattle.links.specs.declared.Rest.{Rest}
 use Rattle.links.specs.declared.Taken.the-variants.{Carries}
 use Rattle.links.specs.Taken.{replied}
 use Rattle.picture.specs.Picture.{Seen}
-use Rattle.calls.specs.State.{State, state}
+use Rattle.calls.specs.State.{State, state, freshState}
 use Rattle.calls.specs.Calls.{Called, accepted, takenOn, Fits, called}
 
--- a transfer is lost exactly where more than 0 microseconds remain and it is no status read
+-- 1. A transfer is lost exactly where more than 0 microseconds remain and it is no status read.
 abbrev pub LostWhenBusy : Type 0
 LostWhenBusy = (c : Control) (t : Transfer) → lost c t ≡ true ↔ (0 < c .time .remaining) × (t ≢ Status)
+
+-- 2. What each transfer costs, in microseconds: an executed clear 1,600, every other executed instruction and each data transfer 72, status
+-- reads and ignored codes nothing.
+pub record Costs : Type 0 where
+  pub clear : (c : Control) (byte : ℕ) → said (modes c) byte ≡ Clear → cost c (Instruct byte) ≡ 1600
+  pub executed : (c : Control) (byte : ℕ) → said (modes c) byte ≢ Ignored → said (modes c) byte ≢ Clear → cost c (Instruct byte) ≡ 72
+  pub ignored : (c : Control) (byte : ℕ) → said (modes c) byte ≡ Ignored → cost c (Instruct byte) ≡ 0
+  pub write : (c : Control) (byte : ℕ) → cost c (Write byte) ≡ 72
+  pub read : (c : Control) → cost c Read ≡ 72
+  pub status : (c : Control) → cost c Status ≡ 0
 
 -- a call brings this whole transfer to the controller: as one byte, or with the half byte or the serial bit at which it acts; and this is
 -- the rest, by which its answer goes back
 abbrev pub Brings : State → Event → Transfer → Rest → Type 0
 Brings s call t rest = takenOn s call ≡ Carries (record { deed = Whole t; rest = rest })
 
--- 1. A call whose transfer is lost is accepted, replies 0, counts 0, and leaves the frame, the memories and the controls as they were, the
+-- 3. A call whose transfer is lost is accepted, replies 0, counts 0, and leaves the frame, the memories and the controls as they were, the
 -- remaining time among them; the link alone moves on, as it does with an answer of 0.
 abbrev pub LostLeavesAll : Type 0
 LostLeavesAll =
@@ -67,7 +80,7 @@ pub record CarriedOutAtCost (e : Seen) (s : State) (frame : List ℕ) (t : Trans
   pub costless : cost (s .control) t ≡ 0 → k .state .control .time .remaining ≡ s .control .time .remaining
   pub untimed : s .control .time .timed ≡ false → k .state .control .time .remaining ≡ s .control .time .remaining
 
--- 2. Every other transfer is carried out, at its cost.
+-- 4. Every other transfer is carried out, at its cost.
 abbrev pub CarriedOutUnlessLost : Type 0
 CarriedOutUnlessLost =
     (e : Seen) (s : State) (frame : List ℕ) (call : Event) (t : Transfer) (rest : Rest)
@@ -76,7 +89,7 @@ CarriedOutUnlessLost =
     → lost (s .control) t ≡ false
     → CarriedOutAtCost e s frame t rest (called e s frame call)
 
--- 3. While busy a status read shows bit 7 set beside the counter, else the counter alone; it changes nothing.
+-- 5. While busy a status read shows bit 7 set beside the counter, else the counter alone; it changes nothing.
 abbrev pub StatusShowsBusy : Type 0
 StatusShowsBusy =
     (e : Seen) (s : State) (frame : List ℕ) (pairing : Pairing)
@@ -92,7 +105,7 @@ StatusShowsBusy =
       frame = frame;
     }
 
--- 4. On a panel with time, on either link, value times 8 microseconds pass: so much less remains, 0 and no lower (as the difference of
+-- 6. On a panel with time, on either link, value times 8 microseconds pass: so much less remains, 0 and no lower (as the difference of
 -- natural numbers is); all else stays.
 abbrev pub PassFalls : Type 0
 PassFalls =
@@ -108,8 +121,12 @@ PassFalls =
       frame = frame;
     }
 
--- 5. No call changes whether there is time, reset neither.
+-- 7. No call changes whether there is time, reset neither.
 abbrev pub TimeIsKept : Type 0
 TimeIsKept =
     (e : Seen) (s : State) (frame : List ℕ) (call : Event)
     → called e s frame call .state .control .time .timed ≡ s .control .time .timed
+
+-- 8. Fresh, and so after reset, a panel is not busy, and has time or not as it is made.
+abbrev pub FreshIsNotBusy : Type 0
+FreshIsNotBusy = (made : Made) → freshState made .control .time ≡ record { timed = made .time; remaining = 0 }
