@@ -1,5 +1,5 @@
--- A transfer leaves the time alone but for its cost, and nothing that reaches the controller changes whether there is time; and without
--- time nothing is lost and nothing costs: every transfer is carried out as it was before there was time.
+-- A transfer leaves the time alone but for its cost, and nothing that reaches the controller changes whether there is time. Where it is not
+-- busy nothing is lost; and without time nothing costs either: every transfer is carried out as it was before there was time.
 use Prim.Native.Nat.{ℕ, _≤_}
 use mathlib.Core.Bool.{Bool, true, false, _&&_}
 use mathlib.Core.Path.{_≡_, refl, ap, subst, _∙_}

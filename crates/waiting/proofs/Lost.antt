@@ -185,7 +185,10 @@ carried-out-unless-lost e s frame call t rest h b l =
     record {
       does = ap apartFromTime is;
       busyFor = λ timed costs. remains ∙ charged-costs n (s .control .time) timed costs;
-      costless = λ none. remains ∙ ap (λ (k : ℕ). charged k (s .control .time) .remaining) none ∙ ap (λ (x : Time). x .remaining) (charged-none (s .control .time));
+      costless =
+          λ none. remains
+          ∙ ap (λ (k : ℕ). charged k (s .control .time) .remaining) none
+          ∙ ap (λ (x : Time). x .remaining) (charged-none (s .control .time));
       untimed = λ none. remains ∙ ap (λ (x : Time). x .remaining) (uncharged n (s .control .time) none);
     }
 
@@ -224,20 +227,21 @@ status-shows-busy e s frame pairing h l d =
 
 -- value times 8
 falls : (value : ℕ) (t : Time) → t .timed ≡ true → elapsed value t ≡ record { timed = true; remaining = t .remaining - 8 * value }
-falls value t e =
-    ap (λ (x : Bool). record { timed = x; remaining = t .remaining - value * 8 }) e
-    ∙ ap (λ (n : ℕ). record { timed = true; remaining = t .remaining - n }) (let q : value * 8 ≡ 8 * value = omega arith in q)
+falls value t timed =
+    let eights : value * 8 ≡ 8 * value = omega arith in
+    ap (λ (x : Bool). record { timed = x; remaining = t .remaining - value * 8 }) timed
+    ∙ ap (λ (n : ℕ). record { timed = true; remaining = t .remaining - n }) eights
 
 pub pass-falls : PassFalls
 unfolding takenBy performed
-pass-falls e s frame value h e-timed =
+pass-falls e s frame value h timed =
     let m = s .memories in
     let c = s .control in
     admitted e s frame (Pass value) h
-    ∙ ap (λ (x : Bool). if not x then refused s frame 8 else unlessOther e s frame (takenOn s (Pass value))) e-timed
+    ∙ ap (λ (x : Bool). if not x then refused s frame 8 else unlessOther e s frame (takenOn s (Pass value))) timed
     ∙ unnamed-accepted e frame m (withTime (elapsed value (c .time)) c) 0 (Stays (s .link))
     ∙ ap (λ (x : Time). record { state = state m (withTime x c) (s .link); number = 0; reply = 0; count = 0; frame = frame })
-    (falls value (c .time) e-timed)
+    (falls value (c .time) timed)
 
 pub time-is-kept : TimeIsKept
 time-is-kept e s frame call = called-timed e s frame call

@@ -18,11 +18,11 @@ use Rattle.repaint.proofs.Counts.{count-nothing}
 use Rattle.calls.specs.State.{state}
 use Rattle.calls.specs.Calls.{accepted}
 
-none-painted : (e : Fonts) (m : Memories) (look : Look) (frame : List ℕ) → repainted wide e m look Nothing frame ≡ frame
+pub none-painted : (e : Fonts) (m : Memories) (look : Look) (frame : List ℕ) → repainted wide e m look Nothing frame ≡ frame
 unfolding repainted named covers
 none-painted e m look frame = painted-none _ _ frame (λ i h. refl)
 
-none-counted : (v : View) (text : List ℕ) → countNamed wide v text Nothing ≡ 0
+pub none-counted : (v : View) (text : List ℕ) → countNamed wide v text Nothing ≡ 0
 unfolding countNamed named
 none-counted v text = count-nothing v text
 

@@ -35,7 +35,7 @@ use Rattle.calls.proofs.Kept.{called-valid, called-timed, admitted, still-fits}
 use Rattle.waiting.specs.Answers.{answers, numbersOf, countsOf}
 use Rattle.waiting.specs.Lost.{noTime, withoutTime, apartFromTime}
 use Rattle.waiting.specs.WithoutTime.{isPass}
-use Rattle.waiting.specs.Waiting.{repliesOf, spaced, wait, NonePass, WaitingIsServed}
+use Rattle.waiting.specs.Waiting.{repliesOf, spaced, enough, wait, NonePass, WaitingIsServed}
 use Rattle.waiting.proofs.Lost.{pass-falls}
 use Rattle.waiting.proofs.WithoutTime.{in-time, none-passes}
 
@@ -103,9 +103,9 @@ served e s frame call h idle p =
     by (Carries x) = sym (ap (λ (a : Acted). accepted e frame a (x .rest)) (performed-apart (s .memories) (s .control) idle (x .deed)))
 
 -- after a wait nothing remains, whatever it was that a call left
-waited : (timed : Bool) (n : ℕ) → n ≤ longest timed → ltb 0 (n - 8 * 200) ≡ false
-waited true n h = le-ltb 0 (n - 8 * 200) (omega (arith, h))
-waited false n h = le-ltb 0 (n - 8 * 200) (omega (arith, h))
+none-left : (timed : Bool) (n : ℕ) → n ≤ longest timed → ltb 0 (n - 8 * enough) ≡ false
+none-left true n h = le-ltb 0 (n - 8 * enough) (omega (arith, h))
+none-left false n h = le-ltb 0 (n - 8 * enough) (omega (arith, h))
 
 pub waiting-is-served : WaitingIsServed
 unfolding answers afterCalls spaced NonePass
@@ -116,12 +116,12 @@ waiting-is-served e s frame (call ∷ calls) v h timed idle n =
     let alike = served e s frame call h idle (n .0) in
     let fits = still-fits e s frame call h in
     let valid = called-valid e s frame call v in
-    let waits = pass-falls e (k .state) (k .frame) 200 fits (called-timed e s frame call ∙ timed) in
-    let after = withTime (record { timed = true; remaining = k .state .control .time .remaining - 8 * 200 }) (k .state .control) in
+    let waits = pass-falls e (k .state) (k .frame) enough fits (called-timed e s frame call ∙ timed) in
+    let after = withTime (record { timed = true; remaining = k .state .control .time .remaining - 8 * enough }) (k .state .control) in
     let rest =
     waiting-is-served e (state (k .state .memories) after (k .state .link)) (k .frame) calls
     (subst (λ (x : Called). Valid (x .state)) waits (called-valid e (k .state) (k .frame) wait valid))
-    fits refl (waited (k .state .control .time .timed) (k .state .control .time .remaining) (valid .control .remaining)) (n .1) in
+    fits refl (none-left (k .state .control .time .timed) (k .state .control .time .remaining) (valid .control .remaining)) (n .1) in
     record {
       numbers =
           ap (λ (x : Called). k .number ∷ x .number ∷ numbersOf e (x .state) (x .frame) (spaced wait calls)) waits

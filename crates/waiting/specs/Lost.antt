@@ -89,7 +89,7 @@ CarriedOutUnlessLost =
     → lost (s .control) t ≡ false
     → CarriedOutAtCost e s frame t rest (called e s frame call)
 
--- 5. While busy a status read shows bit 7 set beside the counter, else the counter alone; it changes nothing.
+-- 5. While busy a status read, here as one byte, shows bit 7 set beside the counter, else the counter alone; it changes nothing.
 abbrev pub StatusShowsBusy : Type 0
 StatusShowsBusy =
     (e : Seen) (s : State) (frame : List ℕ) (pairing : Pairing)

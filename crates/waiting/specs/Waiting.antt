@@ -23,9 +23,12 @@ unfoldable pub spaced : {A : Type 0} → A → List A → List A
 spaced x [] = []
 spaced x (y ∷ ys) = y ∷ x ∷ spaced x ys
 
--- 1,600 microseconds pass, as long as a clear takes
+-- 200 times 8 microseconds pass: 1,600, as long as a clear takes
+abbrev pub enough : ℕ
+enough = 200
+
 abbrev pub wait : Event
-wait = Pass 200
+wait = Pass enough
 
 -- calls of document 01: in none of them time passes
 unfoldable pub NonePass : List Event → Type 0
@@ -43,8 +46,8 @@ pub record ServedAlike (e : Seen) (s : State) (frame : List ℕ) (calls : List E
   pub states : withoutTime (afterCalls e s frame (spaced wait calls) .state) ≡ afterCalls e (withoutTime s) frame calls .state
   pub idle : busy (afterCalls e s frame (spaced wait calls) .state .control) ≡ false
 
--- It holds on any panel with time that is not busy, on either link, for any calls, those that its link refuses among them. (Where frame or
--- fonts do not fit, every call is refused alike, the waits too.)
+-- It holds on any panel with time that is not busy, on either link, for any calls, those of the other link among them, which are refused.
+-- Frame and fonts fit; else every call is refused (demand 1).
 abbrev pub WaitingIsServed : Type 0
 WaitingIsServed =
     (e : Seen) (s : State) (frame : List ℕ) (calls : List Event)
