@@ -1,5 +1,5 @@
--- A transfer leaves the time alone but for its cost, and nothing that reaches the controller changes whether there is time; and without
--- time nothing is lost and nothing costs: every transfer is carried out as it was before there was time.
+-- A transfer leaves the time alone but for its cost, and nothing that reaches the controller changes whether there is time. Where it is not
+-- busy nothing is lost; and without time nothing costs either: every transfer is carried out as it was before there was time.
 use Prim.Native.Nat.{ℕ, _≤_}
 use mathlib.Core.Bool.{Bool, true, false, _&&_}
 use mathlib.Core.Path.{_≡_, refl, ap, subst, _∙_}
@@ -61,20 +61,31 @@ performed-timed m c (deed.Whole t) =
 performed-timed m c (deed.Fresh pin) = refl
 performed-timed m c (deed.Pass eights) = refl
 
+-- where it is not busy nothing is lost
+pub never-lost : (c : Control) (t : Transfer) → busy c ≡ false → lost c t ≡ false
+never-lost c (Instruct byte) idle = idle
+never-lost c (Write byte) idle = idle
+never-lost c Status idle = refl
+never-lost c Read idle = idle
+
+-- and what is not lost is carried out, at its cost
+pub unlost-acted :
+    (m : Memories) (c : Control) (t : Transfer)
+    → lost c t ≡ false
+    → onTime m c t ≡ acted (carriedOut m c t .memories) (atCost (cost c t) (carriedOut m c t .done))
+unfolding onTime
+unlost-acted m c t h =
+    let out : Acted = carriedOut m c t in
+    ap (λ (b : Bool). if b then acted m (nothingDone c) else acted (out .memories) (atCost (cost c t) (out .done))) h
+
 -- without time
 
-not-busy : (c : Control) → InRange c → c .time .timed ≡ false → busy c ≡ false
+pub not-busy : (c : Control) → InRange c → c .time .timed ≡ false → busy c ≡ false
 not-busy c r e =
     let none : c .time .remaining ≡ 0 = omega (arith, subst (λ (b : Bool). c .time .remaining ≤ longest b) e (r .remaining)) in
     ap (ltb 0) none
 
-never-lost : (c : Control) (t : Transfer) → InRange c → c .time .timed ≡ false → lost c t ≡ false
-never-lost c (Instruct byte) r e = not-busy c r e
-never-lost c (Write byte) r e = not-busy c r e
-never-lost c Status r e = refl
-never-lost c Read r e = not-busy c r e
-
-uncharged : (n : ℕ) (t : Time) → t .timed ≡ false → charged n t ≡ t
+pub uncharged : (n : ℕ) (t : Time) → t .timed ≡ false → charged n t ≡ t
 uncharged n t e = ap (λ (b : Bool). record { timed = t .timed; remaining = if b && ltb 0 n then n else t .remaining }) e
 
 costs-nothing : (n : ℕ) (d : Done) → d .control .time .timed ≡ false → atCost n d ≡ d
@@ -85,8 +96,7 @@ costs-nothing n d e =
 -- as before there was time
 pub untimed :
     (m : Memories) (c : Control) (t : Transfer) → InRange c → c .time .timed ≡ false → onTime m c t ≡ carriedOut m c t
-unfolding onTime
 untimed m c t r e =
     let out : Acted = carriedOut m c t in
-    ap (λ (b : Bool). if b then acted m (nothingDone c) else acted (out .memories) (atCost (cost c t) (out .done))) (never-lost c t r e)
+    unlost-acted m c t (never-lost c t (not-busy c r e))
     ∙ ap (acted (out .memories)) (costs-nothing (cost c t) (out .done) (ap (λ (t : Time). t .timed) (carriedOut-time m c t) ∙ e))

@@ -30,6 +30,7 @@ use Rattle.repaint.proofs.Counts.{count-nothing}
 use Rattle.calls.specs.State.{state}
 use Rattle.deeds.proofs.Untimed.{performed-timed}
 use Rattle.calls.specs.Calls.{Called, unlessOther, takenOn, timeless, Fits, called, Stands, afterCalls}
+use Rattle.demands.proofs.Quiet.{none-painted, none-counted}
 use Rattle.demands.proofs.Timely.{admitted-timely, AllTimely, all-same, wires-timely, alike-timely}
 use Rattle.demands.specs.Wires.{answers, numbersOf, countsOf, Board, boardOf, countOf, board, given, itemCounts, callsFor, atLast, byItem, sum, onLink, standing, withDl}
 use Rattle.demands.specs.Agreement.{DoesBy, ReceivedAsGiven, SentIsReceived, WritesAreReceived, LinksAgree}
@@ -37,14 +38,6 @@ use Rattle.demands.proofs.ButDl.{boardButDl, board-respects}
 use Rattle.demands.proofs.ItemCounts.{sums-back, counts-agree}
 
 -- where nothing reaches the controller nothing is painted, and nothing counted
-none-painted : (e : Fonts) (m : Memories) (look : Look) (frame : List ℕ) → repainted wide e m look region.Nothing frame ≡ frame
-unfolding repainted named covers
-none-painted e m look frame = painted-none _ _ frame (λ i h. refl)
-
-pub none-counted : (v : View) (text : List ℕ) → countNamed wide v text region.Nothing ≡ 0
-unfolding countNamed named
-none-counted v text = count-nothing v text
-
 board-idles : (e : Seen) → Idles (board e)
 unfolding performed
 board-idles e b =

@@ -23,6 +23,9 @@ use Rattle.links.specs.Sender.{sent}
 use Rattle.picture.proofs.Accepted.{draws}
 use Rattle.calls.specs.Calls.{Called, unlessOther}
 use Rattle.demands.proofs.Agreement.{call-is-connected, sent-is-received, writes-are-received, links-agree}
+use Rattle.demands.proofs.Lost.{lost-when-busy, lost-leaves-all, carried-out-unless-lost, costs, status-shows-busy, pass-falls, time-is-kept, fresh-is-not-busy}
+use Rattle.demands.proofs.WithoutTime.{as-before-time, no-time-passes}
+use Rattle.demands.proofs.Waiting.{waiting-is-served}
 use Rattle.demands.proofs.NoneLost.{carried-out-where-none-lost}
 use Rattle.demands.proofs.KeepDl.{function-sets-keep-dl}
 use Rattle.panel.specs.Handed.{handed}
@@ -68,6 +71,17 @@ demand-2 =
       resets = reset-fresh;
       selectLow = select-low-idles;
       draws = draws;
+      loses = lost-when-busy;
+      leaves = lost-leaves-all;
+      carries = carried-out-unless-lost;
+      costs = costs;
+      showsBusy = status-shows-busy;
+      passes = pass-falls;
+      keepsTime = time-is-kept;
+      beginsIdle = fresh-is-not-busy;
+      asBefore = as-before-time;
+      noTimePasses = no-time-passes;
+      serves = waiting-is-served;
       stores = words-stored;
       readsBack = read-back;
       readsHalves = λ e. halves-read-whole (board e);

@@ -7,6 +7,10 @@ pub mod Agreement
 pub mod KeepDl
 pub mod NoneLost
 pub mod Timely
+pub mod Quiet
+pub mod Lost
+pub mod WithoutTime
+pub mod Waiting
 pub mod Calm
 pub mod Tables
 pub mod Calls

@@ -34,11 +34,11 @@ use Rattle.links.specs.Taken.{byWidth, takenBy}
 use Rattle.picture.specs.Picture.{Seen}
 use Rattle.calls.specs.State.{State, state}
 use Rattle.calls.specs.Calls.{Fits, called}
-use Rattle.demands.specs.Wires.{answers, noTime}
+use Rattle.demands.specs.Wires.{answers, repliesOf, noTime}
 use Rattle.calls.proofs.Kept.{still-fits}
 use Rattle.demands.specs.Demand1.{isSerial}
 use Rattle.demands.specs.Readings.{instruct, writeData, readStatus, readData}
-use Rattle.demands.specs.ReadBack.{repliesTo, toText, toGlyph, toGraphic, thereAndBack, bothRead, TakesBytes, ReadBack}
+use Rattle.demands.specs.ReadBack.{toText, toGlyph, toGraphic, thereAndBack, bothRead, TakesBytes, ReadBack}
 use Rattle.demands.proofs.Addresses.{says-text, says-glyph, says-graphic}
 use Rattle.demands.proofs.Readings.{Told, tells, call-told}
 
@@ -47,7 +47,7 @@ replies : State → List Event → List ℕ
 replies s [] = []
 replies s (call ∷ calls) = tells s call .reply ∷ replies (tells s call .state) calls
 
-replies-told : (e : Seen) (calls : List Event) (s : State) (frame : List ℕ) → Fits e frame → repliesTo e s frame calls ≡ replies s calls
+replies-told : (e : Seen) (calls : List Event) (s : State) (frame : List ℕ) → Fits e frame → repliesOf e s frame calls ≡ replies s calls
 unfolding answers replies
 replies-told e [] s frame fits = refl
 replies-told e (call ∷ calls) s frame fits =
@@ -193,7 +193,7 @@ module _ (e : Seen) (s : State) (frame : List ℕ) (b c : ℕ) (takes : TakesByt
   Replies address counter next x = replies x (thereAndBack address b c) ≡ bothRead address counter next b c
 
   text-read : (a : ℕ) → s .control .function .re ≡ false → a < 64
-      → repliesTo e s frame (thereAndBack (toText a) b c) ≡ bothRead (toText a) a (stepped (entry .id) a) b c
+      → repliesOf e s frame (thereAndBack (toText a) b c) ≡ bothRead (toText a) a (stepped (entry .id) a) b c
   text-read a re h =
       replies-told e (thereAndBack (toText a) b c) s frame (takes .fits)
       ∙ as-bytes (Replies (toText a) a (stepped (entry .id) a)) s (takes .parallel) (takes .wide) (takes .untimed)
@@ -201,7 +201,7 @@ module _ (e : Seen) (s : State) (frame : List ℕ) (b c : ℕ) (takes : TakesByt
       (text-back q entry (s .control .shown) (s .control .function .g) (s .memories) (s .control .place) (s .control .sr) (s .control .view) (s .control .standby) b c a h (takes .valid .text)))
 
   glyph-read : (a : ℕ) → s .control .function .re ≡ false → s .control .sr ≡ false → a < 64
-      → repliesTo e s frame (thereAndBack (toGlyph a) b c) ≡ bothRead (toGlyph a) a (stepped (entry .id) a) b c
+      → repliesOf e s frame (thereAndBack (toGlyph a) b c) ≡ bothRead (toGlyph a) a (stepped (entry .id) a) b c
   glyph-read a re sr h =
       replies-told e (thereAndBack (toGlyph a) b c) s frame (takes .fits)
       ∙ as-bytes (Replies (toGlyph a) a (stepped (entry .id) a)) s (takes .parallel) (takes .wide) (takes .untimed)
@@ -210,7 +210,7 @@ module _ (e : Seen) (s : State) (frame : List ℕ) (b c : ℕ) (takes : TakesByt
       (glyph-back q entry (s .control .shown) (s .control .function .g) (s .memories) (s .control .place) (s .control .sr) (s .control .view) (s .control .standby) b c a h (takes .valid .glyph))))
 
   graphic-read : (row column : ℕ) → s .control .function .re ≡ true → s .control .place .waiting ≡ Nothing → row < 64 → column < 16
-      → repliesTo e s frame (thereAndBack (toGraphic row column) b c) ≡ bothRead (toGraphic row column) column ((column + 1) % 16) b c
+      → repliesOf e s frame (thereAndBack (toGraphic row column) b c) ≡ bothRead (toGraphic row column) column ((column + 1) % 16) b c
   graphic-read row column re waits h k =
       replies-told e (thereAndBack (toGraphic row column) b c) s frame (takes .fits)
       ∙ as-bytes (Replies (toGraphic row column) column ((column + 1) % 16)) s (takes .parallel) (takes .wide) (takes .untimed)

@@ -36,7 +36,8 @@ use Rattle.events.specs.declared.Transfer.the-variants.{Instruct}
 use Rattle.table.specs.declared.Instruction.the-variants.{GraphicAddress}
 use Rattle.demands.proofs.Calm.{calm}
 use Rattle.demands.proofs.Addresses.{says-text, says-glyph, says-graphic}
-use Rattle.demands.proofs.Agreement.{none-counted, writes-are-received}
+use Rattle.demands.proofs.Agreement.{writes-are-received}
+use Rattle.demands.proofs.Quiet.{none-counted}
 use Rattle.demands.proofs.Timely.{writes-timely}
 use Rattle.demands.proofs.KeepDl.{function-sets-keep-dl}
 

@@ -27,6 +27,9 @@ use Rattle.connector.specs.Statements.{HalvesReadWhole}
 use Rattle.demands.specs.Wires.{board}
 use Rattle.demands.specs.Stored.{WordsStored}
 use Rattle.demands.specs.ReadBack.{ReadBack}
+use Rattle.demands.specs.Lost.{LostWhenBusy, Costs, LostLeavesAll, CarriedOutUnlessLost, StatusShowsBusy, PassFalls, TimeIsKept, FreshIsNotBusy}
+use Rattle.demands.specs.WithoutTime.{AsBeforeTime, NoTimePasses}
+use Rattle.demands.specs.Waiting.{WaitingIsServed}
 use Rattle.demands.specs.Agreement.{CallIsConnected, SentIsReceived, WritesAreReceived, CarriedOutWhereNoneLost, LinksAgree, FunctionSetsKeepDl}
 use Rattle.panel.specs.declared.Panel.{Panel}
 use Rattle.panel.specs.declared.Outcome.{Outcome}
@@ -114,6 +117,19 @@ pub record Demand2 : Type 0 where
   pub resets : ResetIsFresh
   pub selectLow : SelectLowIdles
   pub draws : DrawnIsPicture
+  -- with time: what a busy panel loses, what every other transfer does and costs, and how time passes
+  pub loses : LostWhenBusy
+  pub leaves : LostLeavesAll
+  pub carries : CarriedOutUnlessLost
+  pub costs : Costs
+  pub showsBusy : StatusShowsBusy
+  pub passes : PassFalls
+  pub keepsTime : TimeIsKept
+  pub beginsIdle : FreshIsNotBusy
+  -- without time everything is as it was; and a meter that waits finds it so with time
+  pub asBefore : AsBeforeTime
+  pub noTimePasses : NoTimePasses
+  pub serves : WaitingIsServed
   -- the two bytes of a word are stored where document 01 says, over every way, and read back; by half bytes as by bytes
   pub stores : WordsStored
   pub readsBack : ReadBack

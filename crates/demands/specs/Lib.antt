@@ -5,6 +5,9 @@ pub mod Demand1
 pub mod Readings
 pub mod Stored
 pub mod ReadBack
+pub mod Lost
+pub mod WithoutTime
+pub mod Waiting
 pub mod Demand2
 pub mod Demand3
 pub mod Tight

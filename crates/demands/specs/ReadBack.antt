@@ -2,7 +2,7 @@
 -- status tells the counter. Proved in proofs/, as `read-back`.
 use Prim.Native.Nat.{ℕ, _+_, _%_, _<_}
 use mathlib.Core.Bool.{true, false}
-use mathlib.Core.List.{List, [], _∷_, _++_, map}
+use mathlib.Core.List.{List, [], _∷_, _++_}
 use mathlib.Core.Path.{_≡_}
 use lib.ListN.{length, replicate}
 use Rattle.controller.specs.declared.Waiting.the-variants.{Nothing}
@@ -11,13 +11,9 @@ use Rattle.events.specs.declared.Event.{Event}
 use Rattle.picture.specs.Picture.{Seen}
 use Rattle.calls.specs.State.{State, Valid}
 use Rattle.calls.specs.Calls.{Fits}
-use Rattle.demands.specs.Wires.{answers, noTime}
+use Rattle.demands.specs.Wires.{repliesOf, noTime}
 use Rattle.demands.specs.Demand1.{isSerial}
 use Rattle.demands.specs.Readings.{instruct, writeData, readStatus, readData}
-
--- what calls reply, in their order
-abbrev pub repliesTo : Seen → State → List ℕ → List Event → List ℕ
-repliesTo e s frame calls = map (λ k. k .reply) (answers e s frame calls)
 
 -- the instructions that set an address: of text (80h + a), of glyph memory (40h + a), of graphic memory (80h + row, 80h + column)
 abbrev pub toText : ℕ → List Event
@@ -58,7 +54,7 @@ pub record ReadBack : Type 0 where
       → TakesBytes e s frame
       → s .control .function .re ≡ false
       → a < 64
-      → repliesTo e s frame (thereAndBack (toText a) b c) ≡ bothRead (toText a) a (stepped (s .control .entry .id) a) b c
+      → repliesOf e s frame (thereAndBack (toText a) b c) ≡ bothRead (toText a) a (stepped (s .control .entry .id) a) b c
   -- glyph memory: with RE = 0 and SR = 0
   pub glyph :
       (e : Seen) (s : State) (frame : List ℕ) (a b c : ℕ)
@@ -66,7 +62,7 @@ pub record ReadBack : Type 0 where
       → s .control .function .re ≡ false
       → s .control .sr ≡ false
       → a < 64
-      → repliesTo e s frame (thereAndBack (toGlyph a) b c) ≡ bothRead (toGlyph a) a (stepped (s .control .entry .id) a) b c
+      → repliesOf e s frame (thereAndBack (toGlyph a) b c) ≡ bothRead (toGlyph a) a (stepped (s .control .entry .id) a) b c
   -- graphic memory: with RE = 1, where no row waits for its column; the counter steps to the right
   pub graphic :
       (e : Seen) (s : State) (frame : List ℕ) (row column b c : ℕ)
@@ -75,4 +71,4 @@ pub record ReadBack : Type 0 where
       → s .control .place .waiting ≡ Nothing
       → row < 64
       → column < 16
-      → repliesTo e s frame (thereAndBack (toGraphic row column) b c) ≡ bothRead (toGraphic row column) column ((column + 1) % 16) b c
+      → repliesOf e s frame (thereAndBack (toGraphic row column) b c) ≡ bothRead (toGraphic row column) column ((column + 1) % 16) b c

@@ -36,6 +36,9 @@ answers e s frame (event ∷ events) =
 abbrev pub numbersOf : Seen → State → List ℕ → List Event → List ℕ
 numbersOf e s frame events = map (λ k. k .number) (answers e s frame events)
 
+abbrev pub repliesOf : Seen → State → List ℕ → List Event → List ℕ
+repliesOf e s frame events = map (λ k. k .reply) (answers e s frame events)
+
 abbrev pub countsOf : Seen → State → List ℕ → List Event → List ℕ
 countsOf e s frame events = map (λ k. k .count) (answers e s frame events)
 
