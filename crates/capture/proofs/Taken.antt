@@ -39,15 +39,6 @@ refused-no-record h = omega (arith, ap passed h)
 refused-no-end : {n : ℕ} → Refused n ≡ End → ⊥
 refused-no-end h = let z : _≡_ {A = ℕ} 0 1 = cc in omega arith
 
--- a record of kind 7 is not taken without time
-pub kind-seven-refused : (a : Answer) {kind value : ℕ} → takenWith false a ≡ Record kind value → kind ≡ 7 → ⊥
-kind-seven-refused (Record k v) {kind} {value} h e =
-    either-told (λ (a : Answer). a ≡ Record kind value → ⊥) (eqb k 7) (λ t r. refused-no-record r)
-    (λ f r. eqb-false k 7 f (ap (λ (a : Answer). getD (values a) 0 0) r ∙ e))
-    h
-kind-seven-refused (Refused n) h e = refused-no-record h
-kind-seven-refused End h e = omega (arith, ap passed h)
-
 module _ (time : Bool) where
   -- a record that is taken was that record
   pub taken-record : (a : Answer) {kind value : ℕ} → takenWith time a ≡ Record kind value → a ≡ Record kind value

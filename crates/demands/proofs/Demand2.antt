@@ -26,6 +26,7 @@ use Rattle.demands.proofs.Agreement.{call-is-connected, sent-is-receive
 use Rattle.demands.proofs.Lost.{lost-when-busy, lost-leaves-all, carried-out-unless-lost, costs, status-shows-busy, pass-falls, time-is-kept, fresh-is-not-busy}
 use Rattle.demands.proofs.WithoutTime.{as-before-time, no-time-passes}
 use Rattle.demands.proofs.Waiting.{waiting-is-served}
+use Rattle.demands.proofs.Waits.{waiting-sender-loses-none}
 use Rattle.demands.proofs.NoneLost.{carried-out-where-none-lost}
 use Rattle.demands.proofs.KeepDl.{function-sets-keep-dl}
 use Rattle.panel.specs.Handed.{handed}
@@ -82,6 +83,7 @@ demand-2 =
       asBefore = as-before-time;
       noTimePasses = no-time-passes;
       serves = waiting-is-served;
+      losesNone = waiting-sender-loses-none;
       stores = words-stored;
       readsBack = read-back;
       readsHalves = λ e. halves-read-whole (board e);

@@ -11,6 +11,7 @@ pub mod Quiet
 pub mod Lost
 pub mod WithoutTime
 pub mod Waiting
+pub mod Waits
 pub mod Calm
 pub mod Tables
 pub mod Calls

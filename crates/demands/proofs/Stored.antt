@@ -112,14 +112,11 @@ module _ (e : Seen) (frame : List ℕ) (m : Memories) (k : Control) (b c : ℕ) 
       rw (says-glyph (k .place .target) a low high)
       (ap (λ (n : ℕ). n ∷ more) (waking (k .view) (m .text) (k .standby) (Cells (counterCell (k .place)) Nowhere)))
 
-  -- the boards after the row, and after the column
+  -- the board after the row
   abbrev rowSet : ℕ → Board
   rowSet y =
       let start : Board = from true (k .entry .s) (k .sr) Nothing noTime in
       boardAfter e start (obeyedActed m (start .control) (GraphicAddress (bits5-0 y)))
-
-  abbrev columnSet : ℕ → ℕ → Board
-  columnSet y x = boardAfter e (rowSet y) (obeyedActed m (rowSet y .control) (GraphicAddress (bits5-0 x)))
 
   set-row : (y : ℕ) (h : y < 256) → 0x80 ≤ y →
       let start : Board = from true (k .entry .s) (k .sr) Nothing noTime in

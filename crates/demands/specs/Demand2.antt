@@ -29,7 +29,7 @@ use Rattle.demands.specs.Stored.{WordsStored}
 use Rattle.demands.specs.ReadBack.{ReadBack}
 use Rattle.demands.specs.Lost.{LostWhenBusy, Costs, LostLeavesAll, CarriedOutUnlessLost, StatusShowsBusy, PassFalls, TimeIsKept, FreshIsNotBusy}
 use Rattle.demands.specs.WithoutTime.{AsBeforeTime, NoTimePasses}
-use Rattle.demands.specs.Waiting.{WaitingIsServed}
+use Rattle.demands.specs.Waiting.{WaitingIsServed, WaitingSenderLosesNone}
 use Rattle.demands.specs.Agreement.{CallIsConnected, SentIsReceived, WritesAreReceived, CarriedOutWhereNoneLost, LinksAgree, FunctionSetsKeepDl}
 use Rattle.panel.specs.declared.Panel.{Panel}
 use Rattle.panel.specs.declared.Outcome.{Outcome}
@@ -130,6 +130,7 @@ pub record Demand2 : Type 0 where
   pub asBefore : AsBeforeTime
   pub noTimePasses : NoTimePasses
   pub serves : WaitingIsServed
+  pub losesNone : WaitingSenderLosesNone
   -- the two bytes of a word are stored where document 01 says, over every way, and read back; by half bytes as by bytes
   pub stores : WordsStored
   pub readsBack : ReadBack

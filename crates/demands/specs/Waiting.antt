@@ -1,5 +1,5 @@
 -- Request K1 on demand 2: a meter that waits after each call for as long as a clear takes is served as by a panel without time.
--- Proved in proofs/, as `waiting-is-served`.
+-- Proved in proofs/, as `waiting-is-served` and `waiting-sender-loses-none`.
 use Prim.{Unit}
 use Prim.Native.Nat.{ℕ}
 use mathlib.Core.Bool.{true, false}
@@ -8,10 +8,11 @@ use mathlib.Core.Path.{_≡_}
 use Rattle.deeds.specs.Time.{busy}
 use Rattle.events.specs.declared.Event.{Event}
 use Rattle.events.specs.declared.Event.the-variants.{Pass}
+use Rattle.connector.specs.Items.{WholeWrite}
 use Rattle.picture.specs.Picture.{Seen}
 use Rattle.calls.specs.State.{State, Valid}
 use Rattle.calls.specs.Calls.{Fits, afterCalls}
-use Rattle.demands.specs.Wires.{numbersOf, repliesOf, countsOf}
+use Rattle.demands.specs.Wires.{numbersOf, repliesOf, countsOf, boardOf, passing, Timely, NoneLost, items}
 use Rattle.demands.specs.Lost.{withoutTime}
 use Rattle.demands.specs.WithoutTime.{isPass}
 
@@ -54,3 +55,15 @@ WaitingIsServed =
     → busy (s .control) ≡ false
     → NonePass calls
     → ServedAlike e s frame calls
+
+-- So the sender's writes, over any link, with such a wait after each: where there is time none is refused for want of it, and none is lost.
+pub record WaitingLosesNone (e : Seen) (s : State) (frame : List ℕ) (writes : List WholeWrite) : Type 0 where
+  pub timely : s .control .time .timed ≡ true → Timely (s .control) (spaced (passing enough) (items writes))
+  pub noneLost : NoneLost e (boardOf s frame) (spaced (passing enough) (items writes))
+
+abbrev pub WaitingSenderLosesNone : Type 0
+WaitingSenderLosesNone =
+    (e : Seen) (s : State) (frame : List ℕ) (writes : List WholeWrite)
+    → Valid s
+    → busy (s .control) ≡ false
+    → WaitingLosesNone e s frame writes

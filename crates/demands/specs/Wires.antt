@@ -117,7 +117,7 @@ abbrev pub standing : Board → Link → Stands
 standing b link = record { state = onLink b link; frame = b .frame }
 
 -- so many times 8 microseconds pass between whole writes: an event beside the wires
-pub passing : ℕ → Item
+unfoldable pub passing : ℕ → Item
 unfolding takenBy
 passing eights = besideWires (record { event = event.Pass eights; deed = deeds.Pass eights; alike = λ dl link. refl })
 
