@@ -17,7 +17,7 @@ void bytewise_draw(const byte *screen, byte *frame, const byte *half, const byte
 word plain_turns(byte what, word times);
 
 /* Put in by screens.s: four screens of text, glyph, graphic, controls and picture; the fonts. */
-#define SCREEN (128 + 128 + 2048 + 23 + 1024)
+#define SCREEN (128 + 128 + 2048 + 26 + 1024)
 extern const byte screens[4][SCREEN], half[2048], full[267264];
 
 static byte frame[1024];
@@ -67,7 +67,7 @@ static void draw(void (*one)(const byte *), const byte *s) {
     for (word turn = 0; turn < DRAWS; turn++) one(s);
     word count = stop(DRAWS);
     for (word i = 0; i < 1024; i++)
-        if (frame[i] != s[2327 + i]) {
+        if (frame[i] != s[2330 + i]) {
             print(" | another picture");
             return;
         }

@@ -1,5 +1,6 @@
 //! The parallel panel in plain Rust, in place and made for speed: the caller keeps the state, and lends frame and fonts. It does what
-//! the proved call does with a transfer: refusals, whole and half bytes, every instruction, the repaint and its count.
+//! the proved call does with a transfer: refusals, whole and half bytes, every instruction, the repaint and its count, and with time what a
+//! busy panel loses.
 use crate::blocks::{lay, mark, paint_whole, shown, Look, Shown};
 use crate::state::*;
 
@@ -42,10 +43,11 @@ enum Region {
 }
 
 impl Panel {
-    pub fn fresh() -> Panel {
-        let mut control = [0; 23];
+    pub fn fresh(time: bool) -> Panel {
+        let mut control = [0; 26];
         control[ID] = 1;
         control[DL] = 1;
+        control[TIMED] = time as u8;
         Panel {
             screen: Screen {
                 text: [0x20; 128],
@@ -89,6 +91,13 @@ impl Panel {
             reply,
             count: self.screen.paint(region, look, frame),
         }
+    }
+
+    /// So many times 8 microseconds pass.
+    pub fn pass(&mut self, eights: u8) {
+        let remaining = self.screen.remaining();
+        self.screen
+            .remain(remaining.saturating_sub(8 * eights as u16));
     }
 
     #[inline(never)]
@@ -141,11 +150,28 @@ impl Panel {
 
 impl Screen {
     fn act(&mut self, given: Transfer) -> (u8, Region) {
+        let busy = self.remaining() > 0;
         match given {
+            Transfer::Status => (self.control[COUNTER] | (busy as u8) << 7, Region::Nothing),
+            _ if busy => (0, Region::Nothing),
             Transfer::Instruct(byte) => (0, self.instruct(byte)),
             Transfer::Write(byte) => (0, self.write(byte)),
-            Transfer::Status => (self.control[COUNTER], Region::Nothing),
             Transfer::Read => self.read(),
+        }
+    }
+
+    fn remaining(&self) -> u16 {
+        u16::from_be_bytes([self.control[REMAINING], self.control[REMAINING + 1]])
+    }
+
+    fn remain(&mut self, microseconds: u16) {
+        [self.control[REMAINING], self.control[REMAINING + 1]] = microseconds.to_be_bytes();
+    }
+
+    #[inline(always)]
+    fn take(&mut self, microseconds: u16) {
+        if self.control[TIMED] == 1 {
+            self.remain(microseconds);
         }
     }
 
@@ -190,6 +216,7 @@ impl Screen {
 
     #[inline(always)]
     fn write(&mut self, byte: u8) -> Region {
+        self.take(72);
         self.drop_waiting();
         let [target, word, row, low, ..] = self.control;
         *self.next_half() = byte;
@@ -208,6 +235,7 @@ impl Screen {
     }
 
     fn read(&mut self) -> (u8, Region) {
+        self.take(72);
         self.drop_waiting();
         if self.control[DUMMY] == 1 {
             self.control[DUMMY] = 0;
@@ -255,6 +283,7 @@ impl Screen {
         }
         let before = self.cell();
         let wakes = c[STANDBY] == 1 && !(byte == 0x01 && re);
+        self.take(if byte == 0x01 && !re { 1_600 } else { 72 });
         self.drop_waiting();
         self.control[STANDBY] = 0;
         let mut named = Region::Whole;

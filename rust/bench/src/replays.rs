@@ -1,6 +1,6 @@
 //! Records of one sort, many in a row, replayed over the boundary, and the parallel ones by plain Rust in place.
 use crate::in_place::{Answer, Panel, Transfer};
-use crate::screen::{Fonts, Random};
+use crate::screen::{Fonts, Random, TIMED};
 use crate::timing::in_turn;
 use proved::{Lent, Memories};
 use std::hint::black_box;
@@ -107,6 +107,16 @@ fn in_place(
     let mut last = None;
     for record in capture.as_chunks::<4>().0 {
         let given = match *record {
+            [0xA5, 0x5A, 7, value] if panel.screen.control[TIMED] == 1 => {
+                panel.pass(value);
+                accepted += 1;
+                last = Some(Answer {
+                    number: 0,
+                    reply: 0,
+                    count: 0,
+                });
+                continue;
+            }
             [0xA5, 0x5A, 0, value] => Transfer::Instruct(value),
             [0xA5, 0x5A, 1, value] => Transfer::Write(value),
             [0xA5, 0x5A, 2, 0] => Transfer::Status,
@@ -123,21 +133,26 @@ fn in_place(
     (accepted, last)
 }
 
-/// Holds plain Rust in place to the proved code, so that what is timed does the same: random transfers, half bytes among them.
+/// Holds plain Rust in place to the proved code, so that what is timed does the same: random transfers, half bytes among them, without
+/// time and with it.
 pub fn agree(fonts: &Fonts) {
     let mut random = Random(0x5EED_0009);
-    for turn in 0..200 {
+    for turn in 0..400 {
+        let time = turn >= 200;
         let mut capture = Vec::new();
         for _ in 0..200 {
             let kind = [0, 0, 1, 1, 1, 2, 3, 3][random.byte() as usize % 8];
             let value = if kind < 2 { random.byte() } else { 0 };
+            if time && random.byte() % 4 > 0 {
+                capture.extend([0xA5, 0x5A, 7, [8, 9, 9, random.byte()][kind as usize % 4]]);
+            }
             capture.extend([0xA5, 0x5A, kind, value]);
         }
         let lent = fonts.lent(turn % 2 == 1);
         let mut frames = [[0u8; 1024]; 2];
-        let mut panel = Panel::fresh();
+        let mut panel = Panel::fresh(time);
         let (accepted, last) = in_place(&mut panel, &capture, &mut frames[0], lent);
-        let Ok(ended) = proved::replay(true, &capture, &mut frames[1], lent) else {
+        let Ok(ended) = proved::replay(true, time, &capture, &mut frames[1], lent) else {
             panic!("refused");
         };
         let memories = Memories::of(&ended.state);
@@ -168,12 +183,13 @@ pub fn measure(fonts: &Fonts) {
             BATCHES,
             [
                 (1, &mut || {
-                    let mut panel = Panel::fresh();
+                    let mut panel = Panel::fresh(false);
                     black_box(in_place(&mut panel, black_box(&capture), theirs, lent));
                 }),
                 (1, &mut || {
                     let _ = black_box(proved::replay(
                         sort.parallel,
+                        false,
                         black_box(&capture),
                         ours,
                         lent,

@@ -80,7 +80,7 @@ pub fn screen(words: Words, graphics: bool, random: &mut Random) -> Screen {
         text: [0; 128],
         glyph: [0; 128],
         graphic: [0; 2048],
-        control: [0; 23],
+        control: [0; 26],
     };
     for k in 0..64 {
         let [high, low] = word(words, random);

@@ -22,6 +22,9 @@ pub const STANDBY: usize = 16;
 pub const SCROLL: usize = 17;
 pub const SHIFT: usize = 18;
 pub const REVERSED: usize = 19;
+pub const TIMED: usize = 23;
+/// High byte, low byte.
+pub const REMAINING: usize = 24;
 
 /// The targets, as the boundary packs them.
 pub const TEXT: u8 = 0;
@@ -33,7 +36,7 @@ pub struct Screen {
     pub text: [u8; 128],
     pub glyph: [u8; 128],
     pub graphic: [u8; 2048],
-    pub control: [u8; 23],
+    pub control: [u8; 26],
 }
 
 impl Screen {

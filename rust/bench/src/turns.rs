@@ -50,7 +50,7 @@ fn turn(what: u8, i: u32) -> Transfer {
 
 /// So many turns; the first letter says of what, as with `timing`. Answers the number that `timing` prints.
 pub fn run(what: u8, times: u32) -> u32 {
-    let mut panel = Panel::fresh();
+    let mut panel = Panel::fresh(false);
     let mut frame = [0u8; 1024];
     let half = [0u8; 2048];
     let full = [0u8; 32];

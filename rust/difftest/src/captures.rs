@@ -4,19 +4,19 @@ use crate::compare::From;
 use crate::damage::damage;
 use crate::random::Random;
 use crate::scenes::{self, play};
-use crate::wire::{Link, Wire};
+use crate::wire::{Link, Wire, PASS};
 use model::{FRAME_LENGTH, FULL_FONT_LIMIT, HALF_FONT_LENGTH};
 
 /// A capture as a meter's, with noise; every record of a short one is compared, of a long one the last ones, since each is compared
 /// by a replay of all that comes before it.
-pub fn whole(mut random: Random) -> (Case, From) {
+pub fn whole(time: bool, mut random: Random) -> (Case, From) {
     let parallel = !random.once_in(3);
     let (passed, compared) = match random.below(64) {
         0 => (200 + random.below(600), 16),
         1..=8 => (random.below(120), 32),
         _ => (0, 4 + random.below(40)),
     };
-    let mut wire = Wire::new(parallel, random);
+    let mut wire = Wire::new(parallel, time, random);
     begin(&mut wire);
     play(&mut wire, passed + compared);
     wire.fill_record();
@@ -25,7 +25,8 @@ pub fn whole(mut random: Random) -> (Case, From) {
         mut random,
         ..
     } = wire;
-    (Case::random(parallel, capture, &mut random), From(passed))
+    let case = Case::random(parallel, time, capture, &mut random);
+    (case, From(passed))
 }
 
 /// Most captures begin with the display on, and many with the modes that show most.
@@ -51,36 +52,39 @@ fn begin(wire: &mut Wire) {
 }
 
 /// The same, damaged: replay stops where the damage is.
-pub fn damaged(random: Random) -> (Case, From) {
+pub fn damaged(time: bool, random: Random) -> (Case, From) {
     let mut own = random.clone();
-    let (mut case, _) = whole(random);
+    let (mut case, _) = whole(time, random);
     case.capture.truncate(4 * 64);
-    damage(&mut case.capture, &mut own);
+    damage(&mut case.capture, time, &mut own);
     let near = case.records().saturating_sub(8);
     (case, From(if own.once_in(4) { 0 } else { near }))
 }
 
 /// Records of any kind and value, marks right.
-pub fn any_records(mut random: Random) -> (Case, From) {
+pub fn any_records(time: bool, mut random: Random) -> (Case, From) {
     let parallel = random.flag();
     let mut capture = Vec::new();
     for _ in 0..random.below(32) {
         let kind = if parallel { random.below(4) } else { 4 } as u8;
         let (kind, value) = match (random.below(24), kind) {
-            (0, _) => (random.below(8) as u8, random.byte()),
+            (0, _) => (random.below(9) as u8, random.byte()),
             (1, _) => (random.pick(&[5, 6]), random.below(2) as u8),
+            // 72 microseconds are nine times eight, 1,600 two hundred times.
+            (2..=9, _) if time => (PASS, random.pick(&[0, 1, 8, 9, 10, 199, 200, 255])),
             (_, 2 | 3) => (kind, 0),
             _ => (kind, random.byte()),
         };
         capture.extend([0xA5, 0x5A, kind, value]);
     }
-    (Case::random(parallel, capture, &mut random), From(0))
+    let case = Case::random(parallel, time, capture, &mut random);
+    (case, From(0))
 }
 
 /// Buffers of wrong lengths, one or more at a time: refusals 1, 2 and 3.
-pub fn refused(random: Random) -> (Case, From) {
+pub fn refused(time: bool, random: Random) -> (Case, From) {
     let mut own = random.clone();
-    let (mut case, _) = whole(random);
+    let (mut case, _) = whole(time, random);
     case.capture.truncate(4 * 16);
     let wrong = 1 + own.below(7);
     if wrong & 1 != 0 {
@@ -121,16 +125,16 @@ pub fn refused(random: Random) -> (Case, From) {
 }
 
 /// A long capture for the program `replay`, now and then damaged. It begins parallel, and changes over by resets.
-pub fn to_print(mut random: Random, records: usize) -> Vec<u8> {
+pub fn to_print(time: bool, mut random: Random, records: usize) -> Vec<u8> {
     let mut own = random.clone();
     let parallel = !random.once_in(3);
-    let mut wire = Wire::new(true, random);
+    let mut wire = Wire::new(true, time, random);
     wire.reset(parallel);
     begin(&mut wire);
     play(&mut wire, records);
     wire.fill_record();
     if own.once_in(3) {
-        damage(&mut wire.capture, &mut own);
+        damage(&mut wire.capture, time, &mut own);
     }
     wire.capture
 }

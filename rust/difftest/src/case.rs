@@ -6,6 +6,7 @@ use proved::Lent;
 #[derive(Clone)]
 pub struct Case {
     pub parallel: bool,
+    pub time: bool,
     pub capture: Vec<u8>,
     pub frame: Vec<u8>,
     pub half: Vec<u8>,
@@ -15,9 +16,10 @@ pub struct Case {
 
 impl Case {
     /// What the program `replay` begins with.
-    pub fn printed(capture: Vec<u8>) -> Case {
+    pub fn printed(time: bool, capture: Vec<u8>) -> Case {
         Case {
             parallel: true,
+            time,
             capture,
             frame: vec![0; FRAME_LENGTH],
             half: vec![0; HALF_FONT_LENGTH],
@@ -27,10 +29,11 @@ impl Case {
     }
 
     /// A frame of other content, fonts and phase at random, lengths as they should be.
-    pub fn random(parallel: bool, capture: Vec<u8>, random: &mut Random) -> Case {
+    pub fn random(parallel: bool, time: bool, capture: Vec<u8>, random: &mut Random) -> Case {
         let full = full_length(random);
         Case {
             parallel,
+            time,
             capture,
             frame: random.bytes(FRAME_LENGTH),
             half: random.bytes(HALF_FONT_LENGTH),

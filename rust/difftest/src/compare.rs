@@ -16,8 +16,11 @@ pub struct From(pub usize);
 pub struct Tally {
     /// Records whose reply, count, state and frame were compared.
     pub records: u64,
-    /// These by their kind, 0 to 6.
-    pub kinds: [u64; 7],
+    /// These by their kind, 0 to 7.
+    pub kinds: [u64; 8],
+    /// Transfers among them that were lost to a busy panel and that an idle one would have carried out, and those that made it busy.
+    pub lost: u64,
+    pub in_time: u64,
     /// Records that were replayed on the way to those, and not compared one by one.
     pub passed: u64,
     /// Captures that stopped before their end.
@@ -40,7 +43,7 @@ struct Expected<'a> {
 
 /// Replays the case on both sides; answers what differs first, if anything does.
 pub fn compare(case: &Case, from: From, tally: &mut Tally) -> Option<String> {
-    let mut panel = Panel::fresh(case.parallel);
+    let mut panel = Panel::made(case.parallel, case.time);
     let mut frame = case.frame.clone();
     // Once a record has named every byte, the frame is the picture.
     let mut whole = false;
@@ -50,7 +53,9 @@ pub fn compare(case: &Case, from: From, tally: &mut Tally) -> Option<String> {
     for place in 0..=records {
         let begin = (4 * place).saturating_sub(4);
         let end = (4 * place).min(case.capture.len());
-        let said = step(&mut panel, case, &case.capture[begin..end], &mut frame);
+        let record = &case.capture[begin..end];
+        let before = case.time.then(|| panel.clone());
+        let said = step(&mut panel, case, record, &mut frame);
         let stops = said.number != 0;
         let accepted = place - usize::from(stops && place > 0);
         if let Some(answer) = said.answers.last() {
@@ -82,6 +87,9 @@ pub fn compare(case: &Case, from: From, tally: &mut Tally) -> Option<String> {
             (_, true) => {
                 tally.records += 1;
                 tally.kinds[usize::from(case.capture[begin + 2])] += 1;
+                if let Some(before) = before {
+                    count_time(case, record, before, &panel, tally);
+                }
             }
             (_, false) => tally.passed += 1,
         }
@@ -91,6 +99,18 @@ pub fn compare(case: &Case, from: From, tally: &mut Tally) -> Option<String> {
 
 fn step(panel: &mut Panel, case: &Case, record: &[u8], frame: &mut [u8]) -> Replayed {
     model::replay(panel, record, frame, &case.half, &case.full, case.phase)
+}
+
+/// Counts what became of a record's transfer, if it has one: a panel that was idle and is busy has carried it out, and one that was busy
+/// has lost what would have made it busy otherwise.
+fn count_time(case: &Case, record: &[u8], before: Panel, after: &Panel, tally: &mut Tally) {
+    if !before.busy() {
+        tally.in_time += u64::from(after.busy());
+        return;
+    }
+    let mut idle = Panel { left: 0, ..before };
+    step(&mut idle, case, record, &mut case.frame.clone());
+    tally.lost += u64::from(idle.busy());
 }
 
 /// Replays the capture's first `length` bytes by the proved code.
@@ -104,7 +124,7 @@ fn over_the_boundary(
     let mut frame = case.frame.clone();
     let capture = &case.capture[..length];
     let after = format!("after {length} bytes of the capture");
-    let ended = match proved::replay(case.parallel, capture, &mut frame, case.lent()) {
+    let ended = match proved::replay(case.parallel, case.time, capture, &mut frame, case.lent()) {
         Ok(ended) => ended,
         Err(refused) => return refused_as_a_call(case, &refused, &frame, expected, tally),
     };
@@ -148,7 +168,7 @@ fn refused_as_a_call(
     if !refused.kept {
         return Some("a refused replay wrote its state or its last answers".to_string());
     }
-    let state = expected.panel.bytes().try_into().expect("2,337 bytes");
+    let state = expected.panel.bytes().try_into().expect("2,340 bytes");
     bytes("the refused call", "frame", frame_place, frame, &case.frame)
         .or_else(|| drawn(case, &state, expected, false, tally))
 }

@@ -2,7 +2,7 @@
 use crate::random::Random;
 use crate::wire::{EIGHT_BITS, SELECT_LOW};
 
-pub fn damage(capture: &mut Vec<u8>, random: &mut Random) {
+pub fn damage(capture: &mut Vec<u8>, time: bool, random: &mut Random) {
     let records = capture.len() / 4;
     if records == 0 {
         capture.extend([0xA5, 0x5A, 0x00]);
@@ -19,8 +19,12 @@ pub fn damage(capture: &mut Vec<u8>, random: &mut Random) {
         // A mark that is wrong in a bit, or whose bytes have changed places.
         2 => capture[at + random.clone().below(2)] ^= 1 << random.below(8),
         3 => capture.swap(at, at + 1),
-        // A kind above 6.
-        4 => capture[at + 2] = 7 + random.below(249) as u8,
+        // A kind above 6, with time above 7: often the first.
+        4 => {
+            let first = if time { 8 } else { 7 };
+            let further = if random.flag() { random.below(248) } else { 0 };
+            capture[at + 2] = first + further as u8;
+        }
         // A value that is not allowed, or any other kind and value.
         5 => {
             capture[at + 2] = random.pick(&[2, 3, 5, 6]);

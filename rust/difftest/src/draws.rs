@@ -42,6 +42,10 @@ pub fn panel(random: &mut Random) -> Panel {
     panel.scroll = random.below(64) as u8;
     panel.shift = random.below(16) as u8;
     panel.reversed.fill_with(|| random.flag());
+    panel.time = random.flag();
+    if panel.time {
+        panel.left = random.below(1_601) as u16;
+    }
     panel
 }
 
@@ -73,7 +77,7 @@ fn same(
 }
 
 fn state(panel: &Panel) -> [u8; proved::STATE] {
-    panel.bytes().try_into().expect("a state is 2,337 bytes")
+    panel.bytes().try_into().expect("a state is 2,340 bytes")
 }
 
 /// A state that is made up. The boundary takes a control's byte by the bits that it should have, so the others are anything.
@@ -94,20 +98,21 @@ pub fn made_up(random: &mut Random, tally: &mut Tally) -> Option<String> {
     same(&panel, &state, lent, tally)
 }
 
-/// Fills the bits of the controls that do not count.
+/// Fills the bits of the controls that do not count: of the time left no picture shows any.
 fn spoil(state: &mut [u8; proved::STATE], panel: &Panel, random: &mut Random) {
     let counter = if panel.target == Target::Graphic {
         0xF0
     } else {
         0xC0
     };
-    for (at, control) in state[2304..2327].iter_mut().enumerate() {
+    for (at, control) in state[2304..2330].iter_mut().enumerate() {
         *control |= random.byte()
             & match at {
                 0 => 0xFC,
                 1 => counter,
                 2 | 6 | 17 => 0xC0,
                 18 => 0xF0,
+                24 | 25 => 0xFF,
                 _ => 0xFE,
             };
     }

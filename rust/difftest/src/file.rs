@@ -1,9 +1,22 @@
-//! A capture from a file, compared in every way: printed, and over the boundary with other fonts, frames and phases.
+//! A capture from a file, compared in every way: printed, and over the boundary with other fonts, frames and phases, each without and with time.
 use crate::case::Case;
 use crate::compare::{compare, From, Tally};
 use crate::gate::told;
 use crate::printed;
 use crate::random::Random;
+
+fn differs(time: bool, capture: &[u8], tally: &mut Tally) -> Option<String> {
+    let mut random = Random::new(0, 0);
+    let plain = Case::printed(time, capture.to_vec());
+    printed::compare(&plain, &mut random, tally)
+        .or_else(|| compare(&plain, From(0), tally))
+        .or_else(|| {
+            (0..8).find_map(|_| {
+                let case = Case::random(true, time, capture.to_vec(), &mut random);
+                compare(&case, From(0), tally)
+            })
+        })
+}
 
 pub fn run(path: &str) -> bool {
     let capture = match std::fs::read(path) {
@@ -14,18 +27,9 @@ pub fn run(path: &str) -> bool {
         }
     };
     let mut tally = Tally::default();
-    let mut random = Random::new(0, 0);
-    let different = printed::compare(&capture, &mut random, &mut tally)
-        .or_else(|| compare(&Case::printed(capture.clone()), From(0), &mut tally))
-        .or_else(|| {
-            (0..8).find_map(|_| {
-                compare(
-                    &Case::random(true, capture.clone(), &mut random),
-                    From(0),
-                    &mut tally,
-                )
-            })
-        });
+    let different = [false, true]
+        .into_iter()
+        .find_map(|time| differs(time, &capture, &mut tally));
     match different {
         None => println!("ok difftest: {path}: {} compared", told(&tally)),
         Some(what) => {

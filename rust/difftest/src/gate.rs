@@ -1,6 +1,6 @@
 //! The part of the gate: the same cases every time, a line for each group.
 use crate::compare::Tally;
-use crate::groups;
+use crate::groups::{self, named};
 use crate::random::Random;
 use crate::{draws, sender};
 
@@ -19,15 +19,15 @@ fn cases(
 }
 
 /// How much each group compares: the cases are the same every time, so a group that compares less, or nothing, has lost some.
-const PINNED: [(&str, &str); 10] = [
+const PINNED: [(&str, &str); 16] = [
     ("captures", "136816 records, 140573 whole draws"),
     (
         "damaged captures",
-        "6545 records, 738 refusals, 8244 whole draws",
+        "6629 records, 738 refusals, 8331 whole draws",
     ),
     (
         "records of any kind",
-        "6547 records, 461 refusals, 8269 whole draws",
+        "6552 records, 463 refusals, 8278 whole draws",
     ),
     ("buffers that are refused", "400 refusals, 800 whole draws"),
     (
@@ -38,6 +38,27 @@ const PINNED: [(&str, &str); 10] = [
     ("every text word, drawn", "2048 whole draws"),
     ("every length of the full font, drawn", "16708 whole draws"),
     ("printed lines", "57253 printed lines"),
+    (
+        "captures with time",
+        "151676 records, 155433 whole draws, 44361 transfers carried out in time, 16663 lost",
+    ),
+    (
+        "damaged captures with time",
+        "6885 records, 734 refusals, 8570 whole draws, 2005 transfers carried out in time, 811 lost",
+    ),
+    (
+        "records of any kind with time",
+        "6909 records, 434 refusals, 8577 whole draws, 726 transfers carried out in time, 944 lost",
+    ),
+    (
+        "buffers that are refused with time",
+        "400 refusals, 800 whole draws",
+    ),
+    (
+        "every instruction in every mode over each link with time",
+        "175104 records, 175104 whole draws, 29328 transfers carried out in time, 29328 lost",
+    ),
+    ("printed lines with time", "57857 printed lines"),
     ("sender", "4096 calls"),
 ];
 
@@ -67,11 +88,18 @@ pub fn told(tally: &Tally) -> String {
         (tally.draws, "whole draws"),
         (tally.lines, "printed lines"),
     ];
-    let parts: Vec<String> = counts
+    let mut parts: Vec<String> = counts
         .iter()
         .filter(|(count, _)| *count > 0)
         .map(|(count, what)| format!("{count} {what}"))
         .collect();
+    // A run with time that loses none is to be seen.
+    if tally.in_time + tally.lost > 0 {
+        let (in_time, lost) = (tally.in_time, tally.lost);
+        parts.push(format!(
+            "{in_time} transfers carried out in time, {lost} lost"
+        ));
+    }
     if parts.is_empty() {
         return "nothing".to_string();
     }
@@ -88,16 +116,29 @@ fn whole(
     }
 }
 
-pub fn run() -> bool {
+/// The groups that replay captures, on panels without time or with it.
+fn replays(time: bool) -> bool {
     let mut passed = true;
     for (name, make, share) in groups::RANDOM {
         let random =
-            |number: u64, tally: &mut Tally| groups::random(name, make, SEED, number, tally);
-        passed &= group(name, cases(400 * share, random));
+            |number: u64, tally: &mut Tally| groups::random(name, make, time, SEED, number, tally);
+        passed &= group(&named(name, time), cases(400 * share, random));
     }
     let mut tally = Tally::default();
-    let every = groups::every_instruction(SEED, &mut tally).map(|()| told(&tally));
-    passed &= group("every instruction in every mode over each link", every);
+    let every = groups::every_instruction(time, SEED, &mut tally).map(|()| told(&tally));
+    let name = named("every instruction in every mode over each link", time);
+    passed &= group(&name, every);
+    let lines = |number: u64, tally: &mut Tally| {
+        groups::lines(time, SEED, number, 40 << (number % 8), tally)
+    };
+    passed & group(&named("printed lines", time), cases(48, lines))
+}
+
+pub fn run() -> bool {
+    let mut passed = true;
+    for time in [false, true] {
+        passed &= replays(time);
+    }
     let made_up = |number: u64, tally: &mut Tally| groups::made_up(SEED, number, tally);
     passed &= group("states made up, drawn", cases(20_000, made_up));
     passed &= group("every text word, drawn", whole(draws::every_word));
@@ -105,9 +146,6 @@ pub fn run() -> bool {
         "every length of the full font, drawn",
         whole(draws::every_length),
     );
-    let lines =
-        |number: u64, tally: &mut Tally| groups::lines(SEED, number, 40 << (number % 8), tally);
-    passed &= group("printed lines", cases(48, lines));
     let calls = sender::compare(&mut Random::new(SEED, 0)).map(|calls| format!("{calls} calls"));
     passed & group("sender", calls)
 }

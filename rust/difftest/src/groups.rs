@@ -6,8 +6,8 @@ use crate::random::Random;
 use crate::report::report;
 use crate::{captures, draws, modes, printed};
 
-/// A way to make a case of a number.
-type Make = fn(Random) -> (Case, From);
+/// A way to make a case of a number, for a panel without time or with it.
+type Make = fn(bool, Random) -> (Case, From);
 
 /// The random groups, with how many of sixteen cases of a soak each has.
 pub const RANDOM: [(&str, Make, u64); 4] = [
@@ -16,6 +16,15 @@ pub const RANDOM: [(&str, Make, u64); 4] = [
     ("records of any kind", captures::any_records, 2),
     ("buffers that are refused", captures::refused, 1),
 ];
+
+/// A group's name, without time or with it.
+pub fn named(group: &str, time: bool) -> String {
+    format!("{group}{}", if time { " with time" } else { "" })
+}
+
+fn file_name(seed: u64, group: &str, number: u64) -> String {
+    format!("seed-{seed}-{}-{number}", group.replace(' ', "-"))
+}
 
 /// Compares one case, and if it differs makes it small and answers the message.
 pub fn one(name: &str, case: &Case, from: From, tally: &mut Tally) -> Result<(), String> {
@@ -30,38 +39,41 @@ pub fn one(name: &str, case: &Case, from: From, tally: &mut Tally) -> Result<(),
 pub fn random(
     group: &str,
     make: Make,
+    time: bool,
     seed: u64,
     number: u64,
     tally: &mut Tally,
 ) -> Result<(), String> {
-    let (case, from) = make(Random::new(seed, number));
-    let name = format!("seed-{seed}-{}-{number}", group.replace(' ', "-"));
+    let (case, from) = make(time, Random::new(seed, number));
+    let name = file_name(seed, &named(group, time), number);
     one(&name, &case, from, tally)
 }
 
-pub fn every_instruction(seed: u64, tally: &mut Tally) -> Result<(), String> {
-    for (number, (case, begins)) in modes::cases(seed).enumerate() {
-        let name = format!("seed-{seed}-instruction-{number}");
+pub fn every_instruction(time: bool, seed: u64, tally: &mut Tally) -> Result<(), String> {
+    for (number, (case, begins)) in modes::cases(time, seed).enumerate() {
+        let name = file_name(seed, &named("instruction", time), number as u64);
         one(&name, &case, From(begins + 1), tally)?;
     }
     Ok(())
 }
 
-pub fn lines(seed: u64, number: u64, records: usize, tally: &mut Tally) -> Result<(), String> {
+pub fn lines(
+    time: bool,
+    seed: u64,
+    number: u64,
+    records: usize,
+    tally: &mut Tally,
+) -> Result<(), String> {
     let mut random = Random::new(seed, number);
-    let capture = captures::to_print(random.clone(), records);
-    let Some(what) = printed::compare(&capture, &mut random, tally) else {
+    let case = Case::printed(time, captures::to_print(time, random.clone(), records));
+    let Some(what) = printed::compare(&case, &mut random, tally) else {
         return Ok(());
     };
-    let mut differs = |case: &Case| {
-        printed::compare(&case.capture, &mut Random::new(0, 0), &mut Tally::default())
-    };
-    let (small, what) = minimise(&Case::printed(capture), what, &mut differs);
-    Err(report(
-        &format!("seed-{seed}-lines-{number}"),
-        &small,
-        &what,
-    ))
+    let mut differs =
+        |case: &Case| printed::compare(case, &mut Random::new(0, 0), &mut Tally::default());
+    let (small, what) = minimise(&case, what, &mut differs);
+    let name = file_name(seed, &named("lines", time), number);
+    Err(report(&name, &small, &what))
 }
 
 pub fn made_up(seed: u64, number: u64, tally: &mut Tally) -> Result<(), String> {

@@ -1,8 +1,9 @@
 //! Compares the proved code with the model, which was written from document 01 apart from it.
 //!
 //!     difftest                       the cases of the gate: a line 'ok ..' for each group
-//!     difftest soak [MANY] [SEED]    random cases until MANY records were compared; 600s is for so many seconds
-//!     difftest file FILE             one capture
+//!     difftest soak [MANY] [SEED]    random cases until MANY records were compared, without time and with it in turn; 600s is for so many
+//!                                    seconds
+//!     difftest file FILE             one capture, without time and with it
 //!     difftest show WORDS..          what `show` should print, from the model (module `shown`)
 //!
 //! It is run at the project's root. A difference is made small and written to target/difftest.

@@ -48,8 +48,9 @@ impl Small<'_, '_> {
         }
     }
 
-    /// A zero frame and font, no full glyphs and phase 0, each if it can be: what `replay` begins with.
+    /// A zero frame and font, no full glyphs, phase 0 and no time, each if it can be: what `replay` begins with.
     fn plain_surroundings(&mut self) {
+        self.try_with(|case| case.time = false);
         self.try_with(|case| case.full.clear());
         self.try_with(|case| case.half.fill(0));
         self.try_with(|case| case.frame.fill(0));

@@ -4,7 +4,7 @@ use crate::random::Random;
 use crate::scenes::word;
 use crate::wire::{Link, Wire, DATA_READ};
 
-pub const LINKS: [Link; 3] = [Link::Bytes, Link::Halves, Link::Serial];
+const LINKS: [Link; 3] = [Link::Bytes, Link::Halves, Link::Serial];
 
 /// RE, with what only stands while RE is 1.
 #[derive(Clone, Copy)]
@@ -18,16 +18,21 @@ enum Set {
 const SETS: [Set; 4] = [Set::Basic, Set::Extended, Set::RowWaits, Set::Standby];
 
 /// RE, a waiting row, standby; SR; G; target. The other modes (S, I/D, half, dummy, switches, view) are taken at random.
-pub const MODES: usize = 4 * 2 * 2 * 3;
+const MODES: usize = 4 * 2 * 2 * 3;
 
-/// A capture that leads to the mode, its last write the instruction, and the record where that write begins.
-pub fn capture(link: Link, mode: usize, byte: u8, random: Random) -> (Vec<u8>, usize) {
-    let mut wire = Wire::new(link != Link::Serial, random);
+/// A capture that leads to the mode, then the instruction, and the record where that begins. With time the panel is busy there and loses
+/// it, which leaves the mode; time passes, and it comes again.
+fn capture(link: Link, time: bool, mode: usize, byte: u8, random: Random) -> (Vec<u8>, usize) {
+    let mut wire = Wire::new(link != Link::Serial, time, random);
+    wire.patient = true;
     if link == Link::Halves {
         wire.other_width();
     }
     prelude(&mut wire, mode);
     let begins = wire.records();
+    if time {
+        wire.instruction_at_once(byte);
+    }
     wire.instruction(byte);
     (wire.capture, begins)
 }
@@ -83,14 +88,15 @@ fn prelude(wire: &mut Wire, mode: usize) {
 }
 
 /// The whole of it as cases: each mode on each link with each byte.
-pub fn cases(seed: u64) -> impl Iterator<Item = (Case, usize)> {
+pub fn cases(time: bool, seed: u64) -> impl Iterator<Item = (Case, usize)> {
     LINKS.into_iter().flat_map(move |link| {
         (0..MODES).flat_map(move |mode| {
             let number = (link as u64) << 8 | mode as u64;
             let mut surroundings = Random::new(seed, number);
-            let case = Case::random(link != Link::Serial, Vec::new(), &mut surroundings);
+            let parallel = link != Link::Serial;
+            let case = Case::random(parallel, time, Vec::new(), &mut surroundings);
             (0..=255).map(move |byte| {
-                let (capture, begins) = capture(link, mode, byte, surroundings.clone());
+                let (capture, begins) = capture(link, time, mode, byte, surroundings.clone());
                 let case = Case {
                     capture,
                     ..case.clone()

@@ -1,6 +1,6 @@
 //! Names for the places of a state and a frame, for messages.
 
-const CONTROLS: [&str; 23] = [
+const CONTROLS: [&str; 26] = [
     "target",
     "counter",
     "graphic row",
@@ -24,6 +24,9 @@ const CONTROLS: [&str; 23] = [
     "line 1 reversed",
     "line 2 reversed",
     "line 3 reversed",
+    "with time",
+    "time left, high byte",
+    "time left, low byte",
 ];
 
 const LINK: [&str; 10] = [
@@ -44,8 +47,8 @@ pub fn state_place(at: usize) -> String {
         0..=127 => format!("text word {}, byte {}", at / 2, at % 2),
         128..=255 => format!("glyph word {}, byte {}", (at - 128) / 2, at % 2),
         256..=2303 => format!("graphic row {}, byte {}", (at - 256) / 32, at % 32),
-        2304..=2326 => CONTROLS[at - 2304].to_string(),
-        _ => LINK[at - 2327].to_string(),
+        2304..=2329 => CONTROLS[at - 2304].to_string(),
+        _ => LINK[at - 2330].to_string(),
     }
 }
 

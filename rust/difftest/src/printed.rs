@@ -10,12 +10,13 @@ use std::process::{Command, Stdio};
 const RUNNER: &str = "tools/program";
 
 /// What `replay` prints. The capture goes in by parts of the given lengths, since a pipe may hand over as little as it likes.
-fn proved_lines(capture: &[u8], parts: &[usize]) -> Result<Vec<u8>, String> {
+fn proved_lines(case: &Case, parts: &[usize]) -> Result<Vec<u8>, String> {
     let fault = |error: std::io::Error| {
         format!("{RUNNER} replay: {error}; difftest is run at the project's root")
     };
     let mut child = Command::new(RUNNER)
         .arg("replay")
+        .args(case.time.then_some("--time"))
         .stdin(Stdio::piped())
         .stdout(Stdio::piped())
         // where it says that it stopped, which its last line says too
@@ -27,7 +28,7 @@ fn proved_lines(capture: &[u8], parts: &[usize]) -> Result<Vec<u8>, String> {
     let mut lines = Vec::new();
     std::thread::scope(|scope| {
         scope.spawn(move || {
-            let mut rest = capture;
+            let mut rest = &case.capture[..];
             let mut lengths = parts.iter().copied().cycle();
             while !rest.is_empty() {
                 let length = lengths.next().unwrap_or(rest.len()).clamp(1, rest.len());
@@ -49,7 +50,7 @@ fn proved_lines(capture: &[u8], parts: &[usize]) -> Result<Vec<u8>, String> {
 }
 
 fn model_lines(case: &Case) -> String {
-    let mut panel = Panel::fresh(case.parallel);
+    let mut panel = Panel::made(case.parallel, case.time);
     let mut frame = case.frame.clone();
     let said = replay(
         &mut panel,
@@ -62,15 +63,15 @@ fn model_lines(case: &Case) -> String {
     printed(&said)
 }
 
-/// Answers the first line that differs, if one does.
-pub fn compare(capture: &[u8], random: &mut Random, tally: &mut Tally) -> Option<String> {
-    let model = model_lines(&Case::printed(capture.to_vec()));
+/// Answers the first line that differs, if one does, of a case that is what `replay` begins with.
+pub fn compare(case: &Case, random: &mut Random, tally: &mut Tally) -> Option<String> {
+    let model = model_lines(case);
     let parts: Vec<usize> = match random.below(4) {
         0 => vec![1, 3, 4_095, 1],
         1 => vec![5 + random.below(5_000), 1 + random.below(7)],
         _ => Vec::new(),
     };
-    let proved = match proved_lines(capture, &parts) {
+    let proved = match proved_lines(case, &parts) {
         Ok(lines) => lines,
         Err(why) => return Some(why),
     };

@@ -15,7 +15,7 @@ pub fn report(name: &str, case: &Case, what: &str) -> String {
     capture.extend(&case.capture);
     let path = PathBuf::from(FOLDER).join(format!("{name}.capture"));
     let message = format!(
-        "{what}\n  {} records; frame of {} bytes, half font of {}, full font of {}, phase {}, begun {}{}\n",
+        "{what}\n  {} records; frame of {} bytes, half font of {}, full font of {}, phase {}, begun {}{}{}\n",
         case.records(),
         describe(&case.frame),
         describe(&case.half),
@@ -23,14 +23,16 @@ pub fn report(name: &str, case: &Case, what: &str) -> String {
         case.phase as u8,
         if case.parallel { "parallel" } else { "serial" },
         if case.parallel { "" } else { " (the capture has a reset before it)" },
+        if case.time { ", with time" } else { "" },
     );
     let written = std::fs::create_dir_all(FOLDER)
         .and_then(|_| std::fs::write(&path, &capture))
         .and_then(|_| std::fs::write(path.with_extension("txt"), &message));
     let kept = match written {
         Ok(()) => format!(
-            "  ./run {0} and difftest file {0} replay it",
-            path.display()
+            "  ./run {1}{0} and difftest file {0} replay it",
+            path.display(),
+            if case.time { "--time " } else { "" },
         ),
         Err(error) => format!("  it could not be written: {}: {error}", path.display()),
     };

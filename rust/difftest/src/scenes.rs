@@ -8,6 +8,10 @@ pub fn play(wire: &mut Wire, records: usize) {
         if wire.random.once_in(12) {
             wire.noise();
         }
+        if wire.time && wire.random.once_in(12) {
+            let eights = wire.random.byte();
+            wire.pass(eights);
+        }
         scene(wire);
     }
 }
@@ -26,7 +30,7 @@ fn scene(wire: &mut Wire) {
         25..=26 => any_instruction(wire),
         27 => any_function_set(wire),
         28 => other_width(wire),
-        29 => wire.read(STATUS_READ),
+        29 => poll(wire),
         30 => any_data(wire),
         _ => now_and_then(wire),
     }
@@ -117,6 +121,19 @@ fn read_back(wire: &mut Wire) {
     }
     for _ in 0..1 + wire.random.below(6) {
         wire.read(DATA_READ);
+    }
+}
+
+/// Status; with time over and over, since it shows whether the panel is busy.
+fn poll(wire: &mut Wire) {
+    wire.read(STATUS_READ);
+    if !wire.time {
+        return;
+    }
+    for _ in 0..wire.random.below(5) {
+        let eights = wire.random.below(6) as u8;
+        wire.pass(eights);
+        wire.read(STATUS_READ);
     }
 }
 

@@ -1,4 +1,5 @@
-//! The soak: cases without end, until so many records were compared or so many seconds have passed.
+//! The soak: cases without end, until so many records were compared or so many seconds have passed. Sixteen cases without time and sixteen
+//! with it come in turn.
 use crate::compare::Tally;
 use crate::gate::told;
 use crate::groups;
@@ -18,15 +19,17 @@ const DRAWN_EVERY: u64 = 8;
 
 fn case(seed: u64, number: u64, tally: &mut Tally) -> Result<(), String> {
     if number.is_multiple_of(LINES_EVERY) {
-        groups::lines(seed, number, 4_000, tally)?;
+        let time = (number / LINES_EVERY) % 2 == 1;
+        groups::lines(time, seed, number, 4_000, tally)?;
     }
     if number.is_multiple_of(DRAWN_EVERY) {
         groups::made_up(seed, number, tally)?;
     }
+    let time = (number / 16) % 2 == 1;
     let mut turn = number % 16;
     for (name, make, share) in groups::RANDOM {
         if turn < share {
-            return groups::random(name, make, seed, number, tally);
+            return groups::random(name, make, time, seed, number, tally);
         }
         turn -= share;
     }
@@ -62,7 +65,7 @@ pub fn run(until: Until, seed: u64) -> bool {
         }
     }
     println!(
-        "ok difftest: soak, seed {seed}: {} compared in {number} cases; {} more records replayed on the way; records of kinds 0 to 6: {:?}; {:.0} s",
+        "ok difftest: soak, seed {seed}: {} compared in {number} cases; {} more records replayed on the way; records of kinds 0 to 7: {:?}; {:.0} s",
         told(&tally),
         tally.passed,
         tally.kinds,

@@ -1,7 +1,7 @@
 //! What a meter sends, as records of a capture, over any of the three links.
 //!
-//! The wire keeps account of the width and of RE as a meter would. Noise can put that account wrong; the capture is then just
-//! noise, and both sides have to agree on that too.
+//! The wire keeps account of the width, of RE and of the time for which the panel is busy, as a meter would. Noise can put that account
+//! wrong; the capture is then just noise, and both sides have to agree on that too.
 use crate::random::Random;
 
 #[derive(Clone, Copy, PartialEq, Eq)]
@@ -18,11 +18,18 @@ pub const DATA_READ: u8 = 3;
 pub const EIGHT_BITS: u8 = 4;
 pub const SELECT_LOW: u8 = 5;
 pub const RESET: u8 = 6;
+pub const PASS: u8 = 7;
 
 pub struct Wire {
     pub random: Random,
     pub link: Link,
     pub capture: Vec<u8>,
+    /// Whether the panel has time.
+    pub time: bool,
+    /// Whether the meter always waits until the panel is idle.
+    pub patient: bool,
+    /// Microseconds for which the panel is still busy.
+    left: u16,
     re: bool,
     /// Serial bits that do not fill a record yet.
     bits: Vec<bool>,
@@ -32,11 +39,14 @@ pub struct Wire {
 
 impl Wire {
     /// Begins on a fresh panel: parallel with whole bytes, or serial.
-    pub fn new(parallel: bool, random: Random) -> Wire {
+    pub fn new(parallel: bool, time: bool, random: Random) -> Wire {
         Wire {
             random,
             link: if parallel { Link::Bytes } else { Link::Serial },
             capture: Vec::new(),
+            time,
+            patient: false,
+            left: 0,
             re: false,
             bits: Vec::new(),
             header: None,
@@ -52,8 +62,14 @@ impl Wire {
     }
 
     pub fn instruction(&mut self, byte: u8) {
+        self.wait();
+        self.instruction_at_once(byte);
+    }
+
+    pub fn instruction_at_once(&mut self, byte: u8) {
+        let takes = if byte == 0x01 && !self.re { 1_600 } else { 72 };
         self.write(INSTRUCTION, byte);
-        if (0x20..0x40).contains(&byte) {
+        if self.acts(takes) && (0x20..0x40).contains(&byte) {
             let re = byte & 0x04 != 0;
             if re != self.re {
                 self.re = re;
@@ -68,15 +84,22 @@ impl Wire {
     }
 
     pub fn data(&mut self, byte: u8) {
+        self.wait();
         self.write(DATA, byte);
+        self.acts(72);
     }
 
     /// A status read or a data read. The serial link has none: there it is a header that asks for one, and loses sync.
     pub fn read(&mut self, kind: u8) {
+        if kind == DATA_READ && self.link != Link::Serial {
+            self.wait();
+            self.acts(72);
+        }
         match self.link {
             Link::Bytes => self.record(kind, 0),
             Link::Halves => {
                 self.record(kind, 0);
+                self.wait_between();
                 self.record(kind, 0);
             }
             Link::Serial => {
@@ -84,6 +107,48 @@ impl Wire {
                 self.serial_byte(0xFC | (kind & 1) << 1);
             }
         }
+    }
+
+    /// That value times 8 microseconds pass, which only a panel with time hears of.
+    pub fn pass(&mut self, eights: u8) {
+        self.record(PASS, eights);
+        self.left = self.left.saturating_sub(8 * u16::from(eights));
+    }
+
+    /// The meter waits before a transfer: most often as long as the panel is busy, else too shortly or not at all, so that it is lost.
+    fn wait(&mut self) {
+        if !self.time || self.left == 0 {
+            return;
+        }
+        let whole = self.left.div_ceil(8) as u8;
+        if self.patient {
+            return self.pass(whole);
+        }
+        let eights = match self.random.below(16) {
+            0..=8 => whole,
+            9 => whole - 1,
+            10 => self.random.below(whole.into()) as u8,
+            11 => self.random.byte(),
+            12 => 255,
+            _ => return,
+        };
+        self.pass(eights);
+    }
+
+    /// Now and then it waits in the middle of a transfer, unless it has waited before.
+    fn wait_between(&mut self) {
+        if self.time && !self.patient && self.random.once_in(4) {
+            self.wait();
+        }
+    }
+
+    /// A transfer acts, and takes so many microseconds; answers whether it is carried out.
+    fn acts(&mut self, takes: u16) -> bool {
+        let idle = self.left == 0;
+        if self.time && idle {
+            self.left = takes;
+        }
+        idle
     }
 
     /// The instruction set that RE chooses, with the width as it is.
@@ -109,6 +174,7 @@ impl Wire {
         self.fill_record();
         self.record(RESET, parallel as u8);
         self.link = if parallel { Link::Bytes } else { Link::Serial };
+        self.left = 0;
         self.re = false;
         self.header = None;
     }
@@ -210,6 +276,7 @@ impl Wire {
             Link::Halves => {
                 let noise = self.random.byte();
                 self.record(kind, byte & 0xF0 | noise & 0x0F);
+                self.wait_between();
                 self.record(kind, byte << 4 | noise >> 4);
             }
             Link::Serial => {
@@ -219,6 +286,7 @@ impl Wire {
                     self.serial_byte(if register { 0xFA } else { 0xF8 });
                 }
                 self.serial_byte(byte & 0xF0);
+                self.wait_between();
                 self.serial_byte(byte << 4);
                 self.header = Some(register);
             }

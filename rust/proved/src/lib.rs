@@ -7,7 +7,7 @@ extern "C" {
         text: *const [u8; 128],
         glyph: *const [u8; 128],
         graphic: *const [u8; 2048],
-        control: *const [u8; 23],
+        control: *const [u8; 26],
         frame: *mut u8,
         frame_length: usize,
         half: *const u8,
@@ -19,6 +19,7 @@ extern "C" {
 
     fn zifqarell_replay(
         parallel: bool,
+        time: bool,
         capture: *const u8,
         capture_length: usize,
         frame: *mut u8,
@@ -35,8 +36,8 @@ extern "C" {
     fn zifqarell_send(register: bool, byte: u8, buffer: *mut u8, buffer_length: usize) -> u8;
 }
 
-/// The bytes of a state: text memory 128, glyph memory 128, graphic memory 2,048, controls 23, link 10.
-pub const STATE: usize = 2337;
+/// The bytes of a state: text memory 128, glyph memory 128, graphic memory 2,048, controls 26, link 10.
+pub const STATE: usize = 2340;
 
 /// What the lent buffers hold before a call, so that a byte which the call leaves out is seen.
 const UNWRITTEN: u8 = 0xEE;
@@ -49,13 +50,13 @@ pub struct Lent<'a> {
     pub phase: bool,
 }
 
-/// A state to draw: its memories and its 23 bytes of controls.
+/// A state to draw: its memories and its 26 bytes of controls.
 #[derive(Clone, Copy)]
 pub struct Memories<'a> {
     pub text: &'a [u8; 128],
     pub glyph: &'a [u8; 128],
     pub graphic: &'a [u8; 2048],
-    pub control: &'a [u8; 23],
+    pub control: &'a [u8; 26],
 }
 
 impl<'a> Memories<'a> {
@@ -64,7 +65,7 @@ impl<'a> Memories<'a> {
         let (text, rest) = state.split_first_chunk().expect("128 bytes of text");
         let (glyph, rest) = rest.split_first_chunk().expect("128 bytes of images");
         let (graphic, rest) = rest.split_first_chunk().expect("2,048 bytes of graphic");
-        let (control, _) = rest.split_first_chunk().expect("23 bytes of controls");
+        let (control, _) = rest.split_first_chunk().expect("26 bytes of controls");
         Memories {
             text,
             glyph,
@@ -109,9 +110,10 @@ pub fn draw(memories: Memories, frame: &mut [u8], lent: Lent) -> u8 {
     }
 }
 
-/// Replays a capture on a fresh panel, over the lent frame.
+/// Replays a capture on a fresh panel, with or without time, over the lent frame.
 pub fn replay(
     parallel: bool,
+    time: bool,
     capture: &[u8],
     frame: &mut [u8],
     lent: Lent,
@@ -123,6 +125,7 @@ pub fn replay(
     let number = unsafe {
         zifqarell_replay(
             parallel,
+            time,
             capture.as_ptr(),
             capture.len(),
             frame.as_mut_ptr(),
