@@ -10,6 +10,7 @@ struct Asked {
     half: Vec<u8>,
     full: Vec<u8>,
     phase: bool,
+    time: bool,
     records: usize,
     plain: bool,
     pbm: bool,
@@ -48,6 +49,7 @@ fn asked(words: &[&str]) -> Result<Asked, String> {
         half: Vec::new(),
         full: Vec::new(),
         phase: false,
+        time: false,
         records: usize::MAX,
         plain: false,
         pbm: false,
@@ -60,6 +62,7 @@ fn asked(words: &[&str]) -> Result<Asked, String> {
             "--half" => asked.half = file(value()?)?,
             "--full" => asked.full = file(value()?)?,
             "--phase" => asked.phase = *value()? == "1",
+            "--time" => asked.time = true,
             "--records" => asked.records = value()?.parse().map_err(|_| "no number".to_string())?,
             "--plain" => asked.plain = true,
             "--pbm" => asked.pbm = true,
@@ -134,7 +137,7 @@ fn caption(panel: &Panel, records: usize) -> String {
 
 fn printed(words: &[&str]) -> Result<Vec<u8>, String> {
     let asked = asked(words)?;
-    let mut panel = Panel::fresh(true);
+    let mut panel = Panel::made(true, asked.time);
     let mut frame = vec![0; FRAME_LENGTH];
     let said = replay(
         &mut panel,
