@@ -43,10 +43,7 @@ fn from_arguments() -> Asked {
     let time = count == 2 && check::same(&word[..n], b"--time");
     let refused = count > 1 && !time;
     if refused {
-        io::write_all(
-            STDERR_FILENO,
-            b"replay: the one argument that there is is --time\n",
-        );
+        io::write_all(STDERR_FILENO, b"replay: the only argument is --time\n");
     }
     Asked { time, refused }
 }

@@ -62,6 +62,7 @@ fn asked(words: &[&str]) -> Result<Asked, String> {
             "--half" => asked.half = file(value()?)?,
             "--full" => asked.full = file(value()?)?,
             "--phase" => asked.phase = *value()? == "1",
+            "--time" => asked.time = true,
             "--records" => asked.records = value()?.parse().map_err(|_| "no number".to_string())?,
             "--time" => asked.time = true,
             "--plain" => asked.plain = true,
