@@ -58,10 +58,10 @@ module _ (time : Bool) where
       omega (
         arith,
         goes-on-whole (takenWith time (readFirst (a ∷ b ∷ d ∷ e ∷ c))) (contents time c) (length c)
-        (taken-numbered time (a ∷ b ∷ d ∷ e ∷ c))
-        (four-taken-no-end time a b d e c)
-        (all-read c)
-        z,
+            (taken-numbered time (a ∷ b ∷ d ∷ e ∷ c))
+            (four-taken-no-end time a b d e c)
+            (all-read c)
+            z,
       )
 
 pub went-through :

@@ -1,4 +1,4 @@
-// Replays a capture from standard input, and prints a line for each accepted record and one for the end.
+// Replays a capture from standard input, and prints a line for each accepted record and one for the end. With `--time` the panel has time.
 // What is read and written is no matter of a contract; the lines are those of `playback`. What fails is said on standard
 // error, where it fails, and is never taken for the end of the capture.
 use events::Made;
@@ -15,6 +15,12 @@ ghost use Rattle.calls.specs.State.{Valid};
 ghost use Rattle.panel.specs.Handed.{stateOf};
 ghost use Rattle.printed.specs.Text.{Counts};
 
+// Whether the panel is to have time, and whether there are other arguments, which has been said.
+struct Asked {
+    time: bool,
+    refused: bool,
+}
+
 // How many bytes came, and whether a read failed.
 struct Filled {
     count: usize,
@@ -27,6 +33,22 @@ struct Came {
     bytes: usize,
     unread: bool,
     unwritten: bool,
+}
+
+// The one argument that there is.
+fn from_arguments() -> Asked {
+    let count = os::arg_count();
+    let mut word = io::buffer();
+    let n = os::arg(1, &mut word);
+    let time = count == 2 && check::same(&word[..n], b"--time");
+    let refused = count > 1 && !time;
+    if refused {
+        io::write_all(
+            STDERR_FILENO,
+            b"replay: the one argument that there is is --time\n",
+        );
+    }
+    Asked { time, refused }
 }
 
 // One read into the buffer, from a place on.
@@ -128,8 +150,15 @@ fn print_last(place: usize, number: u8) {
 
 // Part after part. A refusal stops the replay also where the read after it failed.
 fn main() {
+    let asked = from_arguments();
+    if asked.refused {
+        return;
+    }
     let mut frame = [0u8; 1024];
-    let mut panel = Panel::fresh(Made { parallel: true });
+    let mut panel = Panel::fresh(Made {
+        parallel: true,
+        time: asked.time,
+    });
     let mut place: usize = 0;
     loop {
         let came = part(panel, place, &mut frame);

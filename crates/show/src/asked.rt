@@ -1,6 +1,7 @@
 // What the command line asks for.
 use crate::saying::usage;
 use crate::saying::wrong;
+use check::same;
 use libc::STDERR_FILENO;
 
 // Files, each by the number of the argument that names it; 0 where none does, since that is the program's own name.
@@ -25,6 +26,7 @@ pub(crate) struct Asked {
     pub files: Files,
     pub records: u64,
     pub phase: bool,
+    pub time: bool,
     pub plain: bool,
     pub help: bool,
     // Whether something was wrong, which has been said.
@@ -36,18 +38,6 @@ pub(crate) struct Asked {
 enum Parsed {
     Number(u64),
     Nothing,
-}
-
-fn same(a: &[u8], b: &[u8]) -> bool {
-    if a.len() != b.len() {
-        return false;
-    }
-    for i in 0..a.len() {
-        if a[i] != b[i] {
-            return false;
-        }
-    }
-    true
 }
 
 fn number_in(text: &[u8]) -> Parsed {
@@ -82,6 +72,7 @@ impl Asked {
             },
             records: u64::MAX,
             phase: false,
+            time: false,
             plain: false,
             help: false,
             refused: false,
@@ -95,6 +86,7 @@ impl Asked {
             files,
             records: self.records,
             phase: self.phase,
+            time: self.time,
             plain: self.plain,
             help: self.help,
             refused: self.refused,
@@ -126,6 +118,10 @@ impl Asked {
         }
         if same(word, b"--records") {
             return self.waiting(Waits::Records);
+        }
+        if same(word, b"--time") {
+            self.time = true;
+            return self;
         }
         if same(word, b"--plain") {
             self.plain = true;

@@ -89,6 +89,7 @@ fn show(asked: Asked, fd: i32, file: &[u8]) {
     let ended = replayed(
         fd,
         asked.records,
+        asked.time,
         &mut frame,
         &half[..m],
         &full[..n],
@@ -103,7 +104,7 @@ fn show(asked: Asked, fd: i32, file: &[u8]) {
     }
     picture(asked, &frame, ended);
     if ended.number != 0 {
-        saying::stopped(file, ended.records, ended.number);
+        saying::stopped(file, ended.records, ended.number, asked.time);
     }
 }
 

@@ -60,17 +60,21 @@ fn part(
     }
 }
 
-// Replays at most so many records on a fresh parallel panel, as document 01's `replay` does.
+// Replays at most so many records on a fresh parallel panel, with or without time, as document 01's `replay` does.
 pub(crate) fn replayed(
     fd: i32,
     most: u64,
+    time: bool,
     frame: &mut [u8; 1024],
     half: &[u8],
     full: &[u8],
     phase: bool,
 ) -> Ended {
     let mut ended = Ended {
-        panel: Panel::fresh(Made { parallel: true }),
+        panel: Panel::fresh(Made {
+            parallel: true,
+            time,
+        }),
         records: 0,
         number: 0,
         well: true,

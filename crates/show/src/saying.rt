@@ -37,20 +37,28 @@ pub(crate) fn wrong_length(file: &[u8], what: &[u8], length: usize, most: usize,
     say(b")\n");
 }
 
+// The last kind that there is, with time or without.
+fn last_kind(time: bool) -> u64 {
+    if time { 7 } else { 6 }
+}
+
 // Document 01's words for a refusal number of a record.
-fn refusal(number: u8) {
+fn refusal(number: u8, time: bool) {
     match number {
         5 => say(b"it is of the other link"),
         6 => say(b"only 1 to 3 bytes remain"),
         7 => say(b"its mark is not A5h 5Ah"),
-        8 => say(b"its kind is above 6"),
+        8 => {
+            say(b"its kind is above ");
+            io::print_decimal(STDERR_FILENO, last_kind(time));
+        }
         9 => say(b"its value is not allowed for its kind"),
         _ => say(b"the frame or a font has a wrong length"),
     }
 }
 
 // Where a replay stopped, and why.
-pub(crate) fn stopped(file: &[u8], records: u64, number: u8) {
+pub(crate) fn stopped(file: &[u8], records: u64, number: u8, time: bool) {
     say(b"show: ");
     say(file);
     say(b": stopped at record ");
@@ -58,7 +66,7 @@ pub(crate) fn stopped(file: &[u8], records: u64, number: u8) {
     say(b" with number ");
     io::print_decimal(STDERR_FILENO, number as u64);
     say(b": ");
-    refusal(number);
+    refusal(number, time);
     say(b"\n");
 }
 
@@ -77,6 +85,10 @@ pub(crate) fn usage(fd: i32) {
         b"  --full FILE   the full font, a multiple of 32 bytes up to 267,264; else an empty one\n",
     );
     io::write_all(fd, b"  --phase 0|1   the blink phase; else 0\n");
+    io::write_all(
+        fd,
+        b"  --time        the panel has time, and kind 7 says that some passed\n",
+    );
     io::write_all(fd, b"  --records N   stops after N records\n");
     io::write_all(
         fd,

@@ -76,7 +76,10 @@ fn turn(what: u8, i: u32) -> Transfer {
 }
 
 fn by_value() -> u32 {
-    let mut panel = Panel::fresh(Made { parallel: true });
+    let mut panel = Panel::fresh(Made {
+        parallel: true,
+        time: false,
+    });
     let mut frame = [0u8; 1024];
     let half = [0u8; 2048];
     let full = [0u8; 32];
@@ -97,7 +100,10 @@ fn on_lent(what: u8) -> u32 {
     let mut text = [0x20u8; 128];
     let mut glyph = [0u8; 128];
     let mut graphic = [0u8; 2048];
-    let mut control = Control::fresh(Made { parallel: true });
+    let mut control = Control::fresh(Made {
+        parallel: true,
+        time: false,
+    });
     let mut link = links::idle(true);
     let mut frame = [0u8; 1024];
     let half = [0u8; 2048];
@@ -136,7 +142,10 @@ fn copied(panel: Panel, i: u32) -> Panel {
 }
 
 fn copies() -> u32 {
-    let mut panel = Panel::fresh(Made { parallel: true });
+    let mut panel = Panel::fresh(Made {
+        parallel: true,
+        time: false,
+    });
     let mut sum: u32 = 0;
     let mut i: u32 = 0;
     while i < TIMES {
@@ -149,7 +158,10 @@ fn copies() -> u32 {
 }
 
 fn draws() -> u32 {
-    let panel = Panel::fresh(Made { parallel: true });
+    let panel = Panel::fresh(Made {
+        parallel: true,
+        time: false,
+    });
     let mut frame = [0u8; 1024];
     let half = [0u8; 2048];
     let full = [0u8; 32];

@@ -33,6 +33,16 @@ fn transfer_of(kind: u8, value: u8) -> Transfer {
     Transfer::Read
 }
 
+// A panel of either link, without time.
+pub(crate) fn fresh(parallel: bool) -> Panel
+    ensures { λ r. ⌜ Valid (stateOf r) ⌝ }
+{
+    Panel::fresh(Made {
+        parallel,
+        time: false,
+    })
+}
+
 // A transfer with right buffers.
 pub(crate) fn transferred(panel: Panel, given: Transfer) -> Outcome
     requires { ⌜ Valid (stateOf panel) ⌝ }
@@ -70,7 +80,7 @@ fn run(label: &[u8], script: &[u8], answers: bool) -> Panel
     ensures { λ r. ⌜ Valid (stateOf r) ⌝ }
 {
     print(label);
-    let mut panel = Panel::fresh(Made { parallel: true });
+    let mut panel = fresh(true);
     let pairs = script.len() / 2;
     for i in 0..pairs {
         let at = 2 * i;

@@ -1,11 +1,11 @@
 // Every refusal of the panel's calls. Beside a refusal it is printed how much of the lent frame was changed, and what a right call then
 // answers on the panel that was handed on.
+use crate::readings::fresh;
 use crate::readings::print_answer;
 use crate::readings::print_state;
 use crate::readings::transferred;
 use crate::saying::print;
 use crate::saying::print_count;
-use events::Made;
 use events::Pin;
 use events::Transfer;
 use panel::Outcome;
@@ -21,7 +21,7 @@ const UNTOUCHED: u8 = 0xAA;
 pub(crate) fn print_drawing(frame: &mut [u8]) {
     let half = [0u8; 2048];
     let full = [0u8; 32];
-    let panel = Panel::fresh(Made { parallel: true });
+    let panel = fresh(true);
     let number = panel.draw(frame, &half, &full, false);
     print_count(b"", frame.len());
     print_count(b" ", number as usize);
@@ -52,7 +52,7 @@ fn shifted(panel: Panel, given: bool) -> Outcome
 fn half_written() -> Panel
     ensures { λ r. ⌜ Valid (stateOf r) ⌝ }
 {
-    let outcome = transferred(Panel::fresh(Made { parallel: true }), Transfer::Write(0x2D));
+    let outcome = transferred(fresh(true), Transfer::Write(0x2D));
     outcome.panel
 }
 
@@ -60,7 +60,7 @@ fn half_written() -> Panel
 fn heard(bits: u32, number: usize) -> Panel
     ensures { λ r. ⌜ Valid (stateOf r) ⌝ }
 {
-    let mut panel = Panel::fresh(Made { parallel: false });
+    let mut panel = fresh(false);
     let mut rest = bits;
     let mut left = number;
     while left > 0 {
@@ -102,19 +102,25 @@ fn carry(panel: Panel, frame: &mut [u8], half: &[u8], full: &[u8]) -> Panel
     told(b", bit ", next.bit(false, frame, half, full, false))
 }
 
-// Chip select low and reset.
-fn drop(panel: Panel, pin: Pin, frame: &mut [u8], half: &[u8], full: &[u8]) -> Panel
+// Chip select low, and time that passes on a panel without time.
+fn wait(panel: Panel, frame: &mut [u8], half: &[u8], full: &[u8]) -> Panel
     requires { ⌜ Valid (stateOf panel) ⌝ }
     ensures { λ r. ⌜ Valid (stateOf r) ⌝ }
 {
     let next = told(b", select-low ", panel.select_low(frame, half, full, false));
-    told(b", reset ", next.reset(pin, frame, half, full, false))
+    told(b", pass ", next.pass(1, frame, half, full, false))
 }
 
-fn draw(panel: Panel, frame: &mut [u8], half: &[u8], full: &[u8]) {
-    let number = panel.draw(frame, half, full, false);
+// Reset, and the picture drawn afresh.
+fn restart(panel: Panel, pin: Pin, frame: &mut [u8], half: &[u8], full: &[u8]) -> Panel
+    requires { ⌜ Valid (stateOf panel) ⌝ }
+    ensures { λ r. ⌜ Valid (stateOf r) ⌝ }
+{
+    let next = told(b", reset ", panel.reset(pin, frame, half, full, false));
+    let number = next.draw(frame, half, full, false);
     print_count(b", draw ", number as usize);
     print_count(b"; changed ", changed(frame));
+    next
 }
 
 // Every call in turn on one panel, each handing it to the next.
@@ -123,9 +129,8 @@ fn knock(panel: Panel, pin: Pin, frame: &mut [u8], half: &[u8], full: &[u8]) -> 
     ensures { λ r. ⌜ Valid (stateOf r) ⌝ }
 {
     let next = carry(panel, frame, half, full);
-    let last = drop(next, pin, frame, half, full);
-    draw(last, frame, half, full);
-    last
+    let last = wait(next, frame, half, full);
+    restart(last, pin, frame, half, full)
 }
 
 // A parallel panel that has written half a word.
