@@ -62,8 +62,8 @@ fn asked(words: &[&str]) -> Result<Asked, String> {
             "--half" => asked.half = file(value()?)?,
             "--full" => asked.full = file(value()?)?,
             "--phase" => asked.phase = *value()? == "1",
-            "--records" => asked.records = value()?.parse().map_err(|_| "no number".to_string())?,
             "--time" => asked.time = true,
+            "--records" => asked.records = value()?.parse().map_err(|_| "no number".to_string())?,
             "--plain" => asked.plain = true,
             "--pbm" => asked.pbm = true,
             path => {
