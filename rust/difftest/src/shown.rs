@@ -64,7 +64,6 @@ fn asked(words: &[&str]) -> Result<Asked, String> {
             "--phase" => asked.phase = *value()? == "1",
             "--time" => asked.time = true,
             "--records" => asked.records = value()?.parse().map_err(|_| "no number".to_string())?,
-            "--time" => asked.time = true,
             "--plain" => asked.plain = true,
             "--pbm" => asked.pbm = true,
             path => {
