@@ -1,7 +1,7 @@
 //! Compares the proved code with the model, which was written from document 01 apart from it.
 //!
 //!     difftest                       the cases of the gate: a line 'ok ..' for each group
-//!     difftest soak [MANY] [SEED]    random cases until MANY records were compared, without time and with it in turn; 600s is for so many
+//!     difftest soak [MANY] [SEED]    random cases until MANY records were compared without time and as many with it; 600s is for so many
 //!                                    seconds
 //!     difftest file FILE             one capture, without time and with it
 //!     difftest show WORDS..          what `show` should print, from the model (module `shown`)

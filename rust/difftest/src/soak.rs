@@ -1,5 +1,5 @@
-//! The soak: cases without end, until so many records were compared or so many seconds have passed. Sixteen cases without time and sixteen
-//! with it come in turn.
+//! The soak: cases without end, until so many records were compared without time and as many with it, or so many seconds have passed. Sixteen
+//! cases without time and sixteen with it come in turn.
 use crate::compare::Tally;
 use crate::gate::told;
 use crate::groups;
@@ -17,15 +17,17 @@ const SHOWN_EVERY: Duration = Duration::from_secs(5);
 const LINES_EVERY: u64 = 2_048;
 const DRAWN_EVERY: u64 = 8;
 
-fn case(seed: u64, number: u64, tally: &mut Tally) -> Result<(), String> {
+/// What was compared without time, and what with it, is counted apart.
+fn case(seed: u64, number: u64, tallies: &mut [Tally; 2]) -> Result<(), String> {
     if number.is_multiple_of(LINES_EVERY) {
         let time = (number / LINES_EVERY) % 2 == 1;
-        groups::lines(time, seed, number, 4_000, tally)?;
+        groups::lines(time, seed, number, 4_000, &mut tallies[usize::from(time)])?;
     }
+    let time = (number / 16) % 2 == 1;
+    let tally = &mut tallies[usize::from(time)];
     if number.is_multiple_of(DRAWN_EVERY) {
         groups::made_up(seed, number, tally)?;
     }
-    let time = (number / 16) % 2 == 1;
     let mut turn = number % 16;
     for (name, make, share) in groups::RANDOM {
         if turn < share {
@@ -39,17 +41,16 @@ fn case(seed: u64, number: u64, tally: &mut Tally) -> Result<(), String> {
 pub fn run(until: Until, seed: u64) -> bool {
     let start = Instant::now();
     let mut shown = start;
-    let mut tally = Tally::default();
-    let done = |tally: &Tally| match until {
-        Until::Records(records) => tally.records >= records,
+    let mut tallies = [Tally::default(), Tally::default()];
+    let done = |tallies: &[Tally; 2]| match until {
+        Until::Records(records) => tallies.iter().all(|tally| tally.records >= records),
         Until::Seconds(seconds) => start.elapsed().as_secs() >= seconds,
     };
     let mut number = 0;
-    while !done(&tally) {
-        if let Err(what) = case(seed, number, &mut tally) {
+    while !done(&tallies) {
+        if let Err(what) = case(seed, number, &mut tallies) {
             println!(
-                "FAILED difftest: soak, seed {seed}, case {number}, after {} compared: {what}",
-                told(&tally)
+                "FAILED difftest: soak, seed {seed}, case {number}, after {number} cases: {what}"
             );
             return false;
         }
@@ -57,19 +58,20 @@ pub fn run(until: Until, seed: u64) -> bool {
         if shown.elapsed() >= SHOWN_EVERY {
             shown = Instant::now();
             let seconds = start.elapsed().as_secs_f64();
-            let speed = tally.records as f64 / seconds;
-            eprintln!(
-                "{seconds:.0} s: {} records compared, {speed:.0} a second",
-                tally.records
-            );
+            let [without, with] = [tallies[0].records, tallies[1].records];
+            let speed = (without + with) as f64 / seconds;
+            eprintln!("{seconds:.0} s: {without} records compared without time, {with} with it, {speed:.0} a second");
         }
     }
-    println!(
-        "ok difftest: soak, seed {seed}: {} compared in {number} cases; {} more records replayed on the way; records of kinds 0 to 7: {:?}; {:.0} s",
-        told(&tally),
-        tally.passed,
-        tally.kinds,
-        start.elapsed().as_secs_f64()
-    );
+    for (tally, mode) in tallies.iter().zip(["without time", "with time"]) {
+        println!(
+            "ok difftest: soak, seed {seed}, {mode}: {} compared; {} more records replayed on the way; records of kinds 0 to 7: {:?}",
+            told(tally),
+            tally.passed,
+            tally.kinds
+        );
+    }
+    let seconds = start.elapsed().as_secs_f64();
+    println!("ok difftest: soak, seed {seed}: {number} cases in {seconds:.0} s");
     true
 }
