@@ -22,7 +22,7 @@ use Rattle.controller.specs.Instructions.{withTime, obeyed, modes}
 use Rattle.controller.specs.Data.{movedOn}
 use Rattle.deeds.specs.declared.Done.{Done}
 use Rattle.deeds.specs.Time.{busy, lost, cost, charged}
-use Rattle.deeds.specs.Transfers.{Acted, acted, executed, written, readOut, statusRead, carriedOut, nothingDone, atCost, onTime, performed}
+use Rattle.deeds.specs.Transfers.{Acted, acted, executed, written, readOut, statusRead, carriedOut, nothingDone, atCost, carriedOutAtCost, onTime, performed}
 
 -- what is carried out leaves the time
 
@@ -72,11 +72,9 @@ never-lost c Read idle = idle
 pub unlost-acted :
     (m : Memories) (c : Control) (t : Transfer)
     → lost c t ≡ false
-    → onTime m c t ≡ acted (carriedOut m c t .memories) (atCost (cost c t) (carriedOut m c t .done))
+    → onTime m c t ≡ carriedOutAtCost m c t
 unfolding onTime
-unlost-acted m c t h =
-    let out : Acted = carriedOut m c t in
-    ap (λ (b : Bool). if b then acted m (nothingDone c) else acted (out .memories) (atCost (cost c t) (out .done))) h
+unlost-acted m c t h = ap (λ (b : Bool). if b then acted m (nothingDone c) else carriedOutAtCost m c t) h
 
 -- without time
 

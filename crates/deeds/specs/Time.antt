@@ -13,7 +13,7 @@ use Rattle.controller.specs.declared.Time.{Time}
 use Rattle.controller.specs.declared.Control.{Control}
 use Rattle.controller.specs.Instructions.{modes}
 
--- busy means more than 0 microseconds remain; a panel without time never is
+-- busy means more than 0 microseconds remain; a panel without time, within its ranges, never is
 abbrev pub busy : Control → Bool
 busy c = ltb 0 (c .time .remaining)
 

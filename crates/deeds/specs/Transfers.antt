@@ -1,4 +1,4 @@
--- Document 01, "Instructions": each transfer whole, with what it leaves in the memories and the controls, its reply, and what it names.
+-- Document 01, "Instructions", and request K1: each transfer whole, with what it leaves in the memories and the controls, its reply, and what it names.
 use Prim.Native.Nat.{ℕ, _+_}
 use Rattle.base.specs.Choice.{if_then_else_}
 use Rattle.table.specs.Table.{said}
@@ -68,11 +68,13 @@ nothingDone c = record { control = c; reply = 0; region = Nothing }
 abbrev pub atCost : ℕ → Done → Done
 atCost n d = record { control = withTime (charged n (d .control .time)) (d .control); reply = d .reply; region = d .region }
 
--- a transfer that would act: lost while busy, and that does not restart the time; else carried out, at its cost
+abbrev pub carriedOutAtCost : Memories → Control → Transfer → Acted
+carriedOutAtCost m c t = acted (carriedOut m c t .memories) (atCost (cost c t) (carriedOut m c t .done))
+
+-- a transfer that would act: while busy all but a status read are lost, and that does not restart the time; else it is carried out, at its
+-- cost
 unfoldable pub onTime : Memories → Control → Transfer → Acted
-onTime m c t =
-    if lost c t then acted m (nothingDone c)
-    else acted (carriedOut m c t .memories) (atCost (cost c t) (carriedOut m c t .done))
+onTime m c t = if lost c t then acted m (nothingDone c) else carriedOutAtCost m c t
 
 -- everything as fresh, and every byte is named
 abbrev pub restarted : Made → Acted

@@ -23,10 +23,10 @@ use Rattle.links.specs.Sender.{sent}
 use Rattle.picture.proofs.Accepted.{draws}
 use Rattle.calls.specs.Calls.{Called, unlessOther}
 use Rattle.demands.proofs.Agreement.{call-is-connected, sent-is-received, writes-are-received, links-agree}
-use Rattle.demands.proofs.Lost.{lost-when-busy, lost-leaves-all, carried-out-unless-lost, costs, status-shows-busy, pass-falls, time-is-kept, fresh-is-not-busy}
+use Rattle.demands.proofs.Lost.{lost-when-busy, lost-leaves-all, quiet-calls-cost-nothing, carried-out-unless-lost, costs, status-shows-busy, pass-falls, time-is-kept, fresh-is-not-busy}
 use Rattle.demands.proofs.WithoutTime.{as-before-time, no-time-passes}
 use Rattle.demands.proofs.Waiting.{waiting-is-served}
-use Rattle.demands.proofs.Waits.{waiting-sender-loses-none}
+use Rattle.demands.proofs.Waits.{none-lost-without-time, waiting-sender-is-served}
 use Rattle.demands.proofs.NoneLost.{carried-out-where-none-lost}
 use Rattle.demands.proofs.KeepDl.{function-sets-keep-dl}
 use Rattle.panel.specs.Handed.{handed}
@@ -74,6 +74,7 @@ demand-2 =
       draws = draws;
       loses = lost-when-busy;
       leaves = lost-leaves-all;
+      quiet = quiet-calls-cost-nothing;
       carries = carried-out-unless-lost;
       costs = costs;
       showsBusy = status-shows-busy;
@@ -83,7 +84,7 @@ demand-2 =
       asBefore = as-before-time;
       noTimePasses = no-time-passes;
       serves = waiting-is-served;
-      losesNone = waiting-sender-loses-none;
+      servesSender = waiting-sender-is-served;
       stores = words-stored;
       readsBack = read-back;
       readsHalves = λ e. halves-read-whole (board e);
@@ -91,6 +92,7 @@ demand-2 =
       receives = sent-is-received;
       receivesAll = writes-are-received;
       carriesOut = carried-out-where-none-lost;
+      losesNone = none-lost-without-time;
       agrees = links-agree;
       keeps = function-sets-keep-dl;
     }

@@ -27,6 +27,7 @@ use Rattle.events.specs.declared.Event.the-variants.{Bit, SelectLow, Reset, Pas
 use Rattle.events.specs.declared.Event.the-variants as event
 use Rattle.events.specs.declared.Transfer.{Transfer}
 use Rattle.events.specs.declared.Transfer.the-variants.{Instruct, Write, Status, Read}
+use Rattle.events.specs.declared.Deed.{Deed}
 use Rattle.events.specs.declared.Deed.the-variants as deed
 use Rattle.links.specs.declared.Link.{Link}
 use Rattle.links.specs.declared.Link.the-variants.{Parallel, Serial}
@@ -41,10 +42,11 @@ use Rattle.links.specs.Halves.{writeHalf, readHalf, paired}
 use Rattle.links.specs.Taken.{byWidth, takenBy, replied}
 use Rattle.picture.specs.Picture.{Seen}
 use Rattle.calls.specs.State.{State, state, freshState}
-use Rattle.calls.specs.Calls.{Called, refused, accepted, unlessOther, takenOn, reaching, unlessTimeless, Fits, called}
+use Rattle.calls.specs.Calls.{Called, refused, accepted, unlessOther, takenOn, reaching, timeless, unlessTimeless, Fits, called}
 use Rattle.calls.proofs.Kept.{admitted, called-timed}
-use Rattle.demands.specs.Lost.{LostWhenBusy, Costs, Brings, LostLeavesAll, apartFromTime, CarriedOutUnlessLost, StatusShowsBusy, PassFalls, TimeIsKept, FreshIsNotBusy}
+use Rattle.demands.specs.Lost.{LostWhenBusy, Costs, Brings, LostLeavesAll, BringsNothing, QuietCallsCostNothing, apartFromTime, CarriedOutUnlessLost, StatusShowsBusy, PassFalls, TimeIsKept, FreshIsNotBusy}
 use Rattle.demands.proofs.Quiet.{unnamed-accepted}
+use Rattle.demands.proofs.Timely.{admitted-timely}
 
 busy-lost : (c : Control) (t : Transfer) → t ≢ Status → busy c ≡ true ↔ (0 < c .time .remaining) × (t ≢ Status)
 busy-lost c t other = (λ h. (ltb-true 0 (c .time .remaining) h, other), λ h. lt-ltb 0 (c .time .remaining) (h .0))
@@ -249,3 +251,25 @@ time-is-kept e s frame call = called-timed e s frame call
 pub fresh-is-not-busy : FreshIsNotBusy
 unfolding freshState freshControl
 fresh-is-not-busy made = refl
+
+isNothing : Deed → Bool
+isNothing deed.Nothing = true
+isNothing (deed.Whole t) = false
+isNothing (deed.Fresh pin) = false
+isNothing (deed.Pass value) = false
+
+-- a call that brings nothing is not one that lets time pass
+quiet-timely : (s : State) (call : Event) (rest : Rest) → BringsNothing s call rest → timeless (s .control) call ≡ false
+unfolding takenBy isNothing
+quiet-timely s (event.Transfer t) rest q = refl
+quiet-timely s (Bit bit) rest q = refl
+quiet-timely s SelectLow rest q = refl
+quiet-timely s (Reset pin) rest q = refl
+quiet-timely s (Pass value) rest q = absurd (true≢false (sym (ap (λ (t : Taken). isNothing (reaching t)) q)))
+
+pub quiet-calls-cost-nothing : QuietCallsCostNothing
+unfolding performed
+quiet-calls-cost-nothing e s frame call rest h q =
+    admitted-timely e s frame call h (quiet-timely s call rest q)
+    ∙ ap (unlessOther e s frame) q
+    ∙ unnamed-accepted e frame (s .memories) (s .control) 0 rest

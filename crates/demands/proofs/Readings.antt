@@ -19,6 +19,7 @@ use Rattle.deeds.specs.Transfers.{executed, written, readOut, statusRead, carri
 use Rattle.events.specs.declared.Event.{Event}
 use Rattle.links.specs.declared.Taken.{Taken}
 use Rattle.links.specs.declared.Taken.the-variants.{OtherLink, Carries}
+use Rattle.links.specs.Halves as halves
 use Rattle.links.specs.Taken.{byWidth, takenBy}
 use Rattle.connector.specs.Items.{bitsOf}
 use Rattle.serial.specs.Serial.{counted, afterHeader, headerBit, bodyBit, completed, heard}
@@ -179,7 +180,7 @@ pub readings-hold : ReadingsHold
 readings-hold = all-hold cases rows-hold
 
 timed-rows-hold : AllRows timedCases
-unfolding AllRows Holds AllRead timedCases allTold lastState tells answers called takenBy byWidth performed onTime carriedOut executed written readOut statusRead obeyed said rowOf stored found moved movedOn instructionNames writeNames readNames covers inCell shownRow shownWord named countNamed count refusalOf freshControl freshMemories freshState bitsOf heard counted afterHeader headerBit bodyBit completed numberOf
+unfolding AllRows Holds AllRead timedCases allTold lastState tells answers called takenBy byWidth halves.paired halves.writeHalf halves.readHalf performed onTime carriedOut executed written readOut statusRead obeyed said rowOf stored found moved movedOn instructionNames writeNames readNames covers inCell shownRow shownWord named countNamed count refusalOf freshControl freshMemories freshState bitsOf heard counted afterHeader headerBit bodyBit completed numberOf
 timed-rows-hold = (
   inl (refl, (refl, (refl, tt))),
   (
@@ -190,7 +191,13 @@ timed-rows-hold = (
         inl (refl, (refl, tt)),
         (
           inl (refl, (refl, tt)),
-          tt,
+          (
+            inl (refl, (refl, (refl, tt))),
+            (
+              inl (refl, (refl, tt)),
+              tt,
+            ),
+          ),
         ),
       ),
     ),

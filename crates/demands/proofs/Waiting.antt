@@ -40,7 +40,7 @@ use Rattle.demands.proofs.Lost.{pass-falls}
 use Rattle.demands.proofs.WithoutTime.{in-time, none-passes}
 
 -- what a transfer leaves, apart from the time
-abbrev actedApart : Acted → Acted
+abbrev pub actedApart : Acted → Acted
 actedApart a =
     acted (a .memories) (record { control = withTime noTime (a .done .control); reply = a .done .reply; region = a .done .region })
 
@@ -76,7 +76,7 @@ module _ (m : Memories) (c : Control) where
     carried-apart Status = rw idle
     carried-apart Read = read-apart
 
-    performed-apart : (d : Deed) → performed m (withTime noTime c) d ≡ actedApart (performed m c d)
+    pub performed-apart : (d : Deed) → performed m (withTime noTime c) d ≡ actedApart (performed m c d)
     unfolding performed freshControl
     performed-apart deed.Nothing = refl
     performed-apart (deed.Whole t) =

@@ -11,7 +11,7 @@ use Rattle.serial.specs.declared.Sync.the-variants.{Lost}
 use Rattle.connector.specs.Items.{WholeWrite, Item, Way, serial, wires, idleOn, resting, syncAfter, Alike}
 use Rattle.connector.specs.Connector.{Came, Comes, elsewhere, comes, eventAt, KeepsDl}
 use Rattle.picture.specs.Picture.{Seen}
-use Rattle.calls.specs.State.{State}
+use Rattle.calls.specs.State.{State, Valid}
 use Rattle.calls.specs.Calls.{Called, refused, timeless, Fits, called, afterCalls}
 use Rattle.demands.specs.Wires.{numbersOf, countsOf, Board, boardOf, board, given, itemCounts, atLast, sumsOf, onLink, standing, Timely, NoneLost, allCarriedOut, items, withDl, HasWidth, SetsWidth}
 
@@ -66,12 +66,20 @@ WritesAreReceived =
     → KeepsDl (board e) way (boardOf s frame) list
     → ReceivedAsGiven e way s frame list
 
--- Where none was lost, as on a panel without time, the bytes given are carried out, each at its cost.
+-- Where none was lost, the bytes given are carried out, each at its cost: memories, controls and frame are those.
 abbrev pub CarriedOutWhereNoneLost : Type 0
 CarriedOutWhereNoneLost =
     (e : Seen) (s : State) (frame : List ℕ) (list : List Item)
     → NoneLost e (boardOf s frame) list
     → given e s frame list ≡ allCarriedOut e (boardOf s frame) list
+
+-- On a panel without time none is lost.
+abbrev pub NoneLostWithoutTime : Type 0
+NoneLostWithoutTime =
+    (e : Seen) (s : State) (frame : List ℕ) (list : List Item)
+    → Valid s
+    → s .control .time .timed ≡ false
+    → NoneLost e (boardOf s frame) list
 
 -- equal apart from link and DL
 pub record SameButLinkAndDl (s t : State) : Type 0 where

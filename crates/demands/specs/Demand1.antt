@@ -51,6 +51,10 @@ pub data TableSays (e : Seen) (frame : List ℕ) (wants other : Bool) : ℕ → 
   otherLink : GoodFrame frame → GoodHalfFont e → GoodFullFont e → wants ≡ false → other ≡ true → TableSays e frame wants other 5
   allGood : GoodFrame frame → GoodHalfFont e → GoodFullFont e → wants ≡ false → other ≡ false → TableSays e frame wants other 0
 
+-- the same where nothing but the buffers is asked
+abbrev pub BuffersSay : Seen → List ℕ → ℕ → Type 0
+BuffersSay e frame n = TableSays e frame false false n
+
 -- transfers are of the parallel link, serial bits and select-low of the serial one; reset is of both, and time passes on both
 abbrev pub isSerial : Link → Bool
 isSerial (Parallel pairing) = false
@@ -75,7 +79,7 @@ pub record CallRefuses (e : Seen) (s : State) (frame : List ℕ) (call : Event) 
 
 -- drawing afresh takes frame and fonts, on either link
 pub record DrawRefuses (e : Seen) (m : Memories) (c : Control) (frame : List ℕ) : Type 0 where
-  pub says : TableSays e frame false false (drawn e m c frame .number)
+  pub says : BuffersSay e frame (drawn e m c frame .number)
   pub keeps : drawn e m c frame .number ≢ 0 → drawn e m c frame ≡ drawing (drawn e m c frame .number) frame
 
 -- the sender: 4 where its buffer is under 3 bytes
@@ -154,25 +158,25 @@ pub data StopsAt (rs : List Recorded) (behind : ℕ) (room : Room) (place : ℕ)
 -- one has no effect
 pub record ReplayStops (e : Seen) (room : Room) (capture : List ℕ) (s : State) (frame : List ℕ) (place : ℕ) (r : Replayed) : Type 0 where
   -- refused as a call before anything is read: nothing changes, and nothing is answered
-  pub refused : (n : ℕ) → TableSays e frame false false n → n ≢ 0 → r ≡ halted s frame place n false
+  pub refused : (n : ℕ) → BuffersSay e frame n → n ≢ 0 → r ≡ halted s frame place n false
   -- else it stops at the first record that is refused, or behind the last; each record before that has answered
   pub counts : r .ending .place ≡ place + length (r .answers)
   pub stops :
-      TableSays e frame false false 0
+      BuffersSay e frame 0
       → StopsAt (readBy s capture .records) (number (readBy s capture .stop)) room place (r .answers) (r .ending .number) (r .ending .full) (r .ending .state .link)
   -- every call of these records is accepted
   pub accepted :
-      TableSays e frame false false 0
+      BuffersSay e frame 0
       → let calls : List Event = callsOfAll (take (length (r .answers)) (readBy s capture .records)) in
       numbersOf e s frame calls ≡ replicate (length calls) 0
   -- the state and the frame are what these calls leave
   pub stands :
-      TableSays e frame false false 0
+      BuffersSay e frame 0
       → record { state = r .ending .state; frame = r .ending .frame }
       ≡ afterCalls e s frame (callsOfAll (take (length (r .answers)) (readBy s capture .records)))
   -- and the answers are theirs: of each record its kind, its call's reply, and the sum of its calls' counts
   pub answers :
-      TableSays e frame false false 0
+      BuffersSay e frame 0
       → r .answers ≡ answersOf e s frame (take (length (r .answers)) (readBy s capture .records))
 
 -- the printed transcript is such a replay, whose lines have the buffer as their room: the lines of all its answers, in their order, stand
@@ -191,14 +195,14 @@ NeverFull =
 abbrev pub TranscriptRefuses : Type 0
 TranscriptRefuses =
     (e : Seen) (capture : List ℕ) (s : State) (frame : List ℕ) (place : ℕ) (text : List ℕ) (n : ℕ)
-    → TableSays e frame false false n
+    → BuffersSay e frame n
     → n ≢ 0
     → transcribed e capture s frame place text ≡ record { ending = halted s frame place n false .ending; reply = 0; count = 0; text = text; filled = 0 }
 
 abbrev pub ExportedReplayRefuses : Type 0
 ExportedReplayRefuses =
     (made : Made) (e : Seen) (capture frame state last : List ℕ) (n : ℕ)
-    → TableSays e frame false false n
+    → BuffersSay e frame n
     → n ≢ 0
     → freshReplay made e capture frame state last ≡ report n frame state last
 

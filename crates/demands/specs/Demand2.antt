@@ -27,10 +27,10 @@ use Rattle.connector.specs.Statements.{HalvesReadWhole}
 use Rattle.demands.specs.Wires.{board}
 use Rattle.demands.specs.Stored.{WordsStored}
 use Rattle.demands.specs.ReadBack.{ReadBack}
-use Rattle.demands.specs.Lost.{LostWhenBusy, Costs, LostLeavesAll, CarriedOutUnlessLost, StatusShowsBusy, PassFalls, TimeIsKept, FreshIsNotBusy}
+use Rattle.demands.specs.Lost.{LostWhenBusy, Costs, LostLeavesAll, QuietCallsCostNothing, CarriedOutUnlessLost, StatusShowsBusy, PassFalls, TimeIsKept, FreshIsNotBusy}
 use Rattle.demands.specs.WithoutTime.{AsBeforeTime, NoTimePasses}
-use Rattle.demands.specs.Waiting.{WaitingIsServed, WaitingSenderLosesNone}
-use Rattle.demands.specs.Agreement.{CallIsConnected, SentIsReceived, WritesAreReceived, CarriedOutWhereNoneLost, LinksAgree, FunctionSetsKeepDl}
+use Rattle.demands.specs.Waiting.{WaitingIsServed, WaitingSenderIsServed}
+use Rattle.demands.specs.Agreement.{CallIsConnected, SentIsReceived, WritesAreReceived, CarriedOutWhereNoneLost, NoneLostWithoutTime, LinksAgree, FunctionSetsKeepDl}
 use Rattle.panel.specs.declared.Panel.{Panel}
 use Rattle.panel.specs.declared.Outcome.{Outcome}
 use Rattle.panel.specs.Handed.{stateOf, handed}
@@ -120,6 +120,7 @@ pub record Demand2 : Type 0 where
   -- with time: what a busy panel loses, what every other transfer does and costs, and how time passes
   pub loses : LostWhenBusy
   pub leaves : LostLeavesAll
+  pub quiet : QuietCallsCostNothing
   pub carries : CarriedOutUnlessLost
   pub costs : Costs
   pub showsBusy : StatusShowsBusy
@@ -130,7 +131,7 @@ pub record Demand2 : Type 0 where
   pub asBefore : AsBeforeTime
   pub noTimePasses : NoTimePasses
   pub serves : WaitingIsServed
-  pub losesNone : WaitingSenderLosesNone
+  pub servesSender : WaitingSenderIsServed
   -- the two bytes of a word are stored where document 01 says, over every way, and read back; by half bytes as by bytes
   pub stores : WordsStored
   pub readsBack : ReadBack
@@ -140,6 +141,7 @@ pub record Demand2 : Type 0 where
   pub receives : SentIsReceived
   pub receivesAll : WritesAreReceived
   pub carriesOut : CarriedOutWhereNoneLost
+  pub losesNone : NoneLostWithoutTime
   -- one list of writes reaches one state over all three links, apart from link and DL, where it keeps each link's DL
   pub agrees : LinksAgree
   -- and it keeps the DL where bit 4 of every function set is that DL

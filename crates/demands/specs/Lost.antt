@@ -19,6 +19,7 @@ use Rattle.events.specs.declared.Transfer.{Transfer}
 use Rattle.events.specs.declared.Transfer.the-variants.{Instruct, Write, Status, Read}
 use Rattle.events.specs.declared.Made.{Made}
 use Rattle.events.specs.declared.Deed.the-variants.{Whole}
+use Rattle.events.specs.declared.Deed.the-variants as deed
 use Rattle.links.specs.declared.Link.the-variants.{Parallel}
 use Rattle.links.specs.declared.Pairing.{Pairing}
 use Rattle.links.specs.declared.Rest.{Rest}
@@ -59,6 +60,26 @@ LostLeavesAll =
     → called e s frame call
     ≡ record { state = state (s .memories) (s .control) (replied rest 0 .link); number = 0; reply = 0; count = 0; frame = frame }
 
+-- a call brings nothing to the controller: a write's first half byte, a read's second, a bit that completes no byte, chip select
+-- low
+abbrev pub BringsNothing : State → Event → Rest → Type 0
+BringsNothing s call rest = takenOn s call ≡ Carries (record { deed = deed.Nothing; rest = rest })
+
+-- 4. It costs nothing: all but the link is as it was, busy or not.
+abbrev pub QuietCallsCostNothing : Type 0
+QuietCallsCostNothing =
+    (e : Seen) (s : State) (frame : List ℕ) (call : Event) (rest : Rest)
+    → Fits e frame
+    → BringsNothing s call rest
+    → called e s frame call
+    ≡ record {
+      state = state (s .memories) (s .control) (replied rest 0 .link);
+      number = 0;
+      reply = replied rest 0 .reply;
+      count = 0;
+      frame = frame;
+    }
+
 -- a state apart from its time: the same panel without time; and all that a call leaves, apart from the time
 abbrev pub withoutTime : State → State
 withoutTime s = state (s .memories) (withTime noTime (s .control)) (s .link)
@@ -76,7 +97,7 @@ pub record CarriedOutAtCost (e : Seen) (s : State) (frame : List ℕ) (t : Trans
   pub costless : cost (s .control) t ≡ 0 → k .state .control .time .remaining ≡ s .control .time .remaining
   pub untimed : s .control .time .timed ≡ false → k .state .control .time .remaining ≡ s .control .time .remaining
 
--- 4. Every other transfer is carried out, at its cost.
+-- 5. Every other transfer is carried out, at its cost.
 abbrev pub CarriedOutUnlessLost : Type 0
 CarriedOutUnlessLost =
     (e : Seen) (s : State) (frame : List ℕ) (call : Event) (t : Transfer) (rest : Rest)
@@ -85,7 +106,7 @@ CarriedOutUnlessLost =
     → lost (s .control) t ≡ false
     → CarriedOutAtCost e s frame t rest (called e s frame call)
 
--- 5. While busy a status read, here as one byte, shows bit 7 set beside the counter, else the counter alone; it changes nothing.
+-- 6. While busy a status read, here as one byte, shows bit 7 set beside the counter, else the counter alone; it changes nothing.
 abbrev pub StatusShowsBusy : Type 0
 StatusShowsBusy =
     (e : Seen) (s : State) (frame : List ℕ) (pairing : Pairing)
@@ -101,7 +122,7 @@ StatusShowsBusy =
       frame = frame;
     }
 
--- 6. On a panel with time, on either link, value times 8 microseconds pass: so much less remains, 0 and no lower (as the difference of
+-- 7. On a panel with time, on either link, value times 8 microseconds pass: so much less remains, 0 and no lower (as the difference of
 -- natural numbers is); all else stays.
 abbrev pub PassFalls : Type 0
 PassFalls =
@@ -117,12 +138,12 @@ PassFalls =
       frame = frame;
     }
 
--- 7. No call changes whether there is time, reset neither.
+-- 8. No call changes whether there is time, reset neither.
 abbrev pub TimeIsKept : Type 0
 TimeIsKept =
     (e : Seen) (s : State) (frame : List ℕ) (call : Event)
     → called e s frame call .state .control .time .timed ≡ s .control .time .timed
 
--- 8. Fresh, and so after reset, a panel is not busy, and has time or not as it is made.
+-- 9. Fresh, and so after reset, a panel is not busy, and has time or not as it is made.
 abbrev pub FreshIsNotBusy : Type 0
 FreshIsNotBusy = (made : Made) → freshState made .control .time ≡ record { timed = made .time; remaining = 0 }

@@ -38,8 +38,8 @@ bothRead address counter next b c =
     replicate (length address) 0
     ++ (counter ∷ 0 ∷ counter ∷ 0 ∷ next ∷ (replicate (length address) 0 ++ (0 ∷ b ∷ c ∷ next ∷ [])))
 
--- a valid state without time on the parallel link with DL = 1, and frame and fonts that fit (with time a meter that waits is served alike:
--- `WaitingIsServed`)
+-- a valid state without time on the parallel link with DL = 1, and frame and fonts that fit (with time, and a wait after each call, it
+-- is the same: `WaitingIsServed`)
 pub record TakesBytes (e : Seen) (s : State) (frame : List ℕ) : Type 0 where
   pub valid : Valid s
   pub fits : Fits e frame

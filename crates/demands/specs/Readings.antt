@@ -1,4 +1,4 @@
--- Document 01, "Panel readings to be proved": one statement over one table. Each row has the calls made from fresh and what is read off
+-- Document 01, "Panel readings to be proved": one statement over one table, and one over a second, of a panel with time. Each row has the calls made from fresh and what is read off
 -- then, by the definitions that the contracts of the public calls cite. `ReadingsHold` and `TimedReadingsHold` are proved
 -- in proofs/, as `readings-hold` and `timed-readings-hold`.
 use Prim.{Unit}
@@ -96,7 +96,8 @@ cases =
 
 -- the same of a panel with time. 1: clear, and status until it is no longer busy. 2: a meter that waits has its hyphen and its seven. 3: one
 -- that does not loses the hyphen, and the seven stands in its place. 4: a read that comes too early answers 0,
--- and is lost. 5: so it is with a dummy read, which stays due
+-- and is lost. 5: so it is with a dummy read, which stays due. 6 and 7, by half bytes: a write busy at its first half and idle at its second is
+-- carried out; a read lost at its first half hands over 0 at its second, though time has passed
 unfoldable pub timedCases : List Case
 timedCases =
     inTimedCase 1 (instruct 0x01 ∷ readStatus ∷ letPass 199 ∷ readStatus ∷ letPass 1 ∷ readStatus ∷ [])
@@ -107,6 +108,22 @@ timedCases =
     (textWord 0 0x3720 ∷ counts (32 ∷ 0 ∷ 0 ∷ 32 ∷ []) ∷ numbers (0 ∷ 0 ∷ 0 ∷ 0 ∷ []) ∷ [])
     ∷ inTimedCase 4 (instruct 0x80 ∷ letPass 9 ∷ readData ∷ readData ∷ letPass 9 ∷ readData ∷ []) (replies (0 ∷ 0 ∷ 0x00 ∷ 0x00 ∷ 0 ∷ 0x20 ∷ []) ∷ [])
     ∷ inTimedCase 5 (instruct 0x80 ∷ readData ∷ letPass 9 ∷ readData ∷ letPass 9 ∷ readData ∷ []) (replies (0 ∷ 0x00 ∷ 0 ∷ 0x00 ∷ 0 ∷ 0x20 ∷ []) ∷ [])
+    ∷ inTimedCase 6 (instruct 0x20 ∷ writeData 0x20 ∷ letPass 9 ∷ writeData 0xD0 ∷ []) (textWord 0 0x2D20 ∷ counts (1024 ∷ 0 ∷ 0 ∷ 32 ∷ []) ∷ [])
+    ∷ inTimedCase 7
+    (instruct 0x20
+    ∷ letPass 9
+    ∷ instruct 0x80
+    ∷ instruct 0x00
+    ∷ letPass 9
+    ∷ readData
+    ∷ readData
+    ∷ readData
+    ∷ letPass 9
+    ∷ readData
+    ∷ readData
+    ∷ readData
+    ∷ [])
+    (replies (0 ∷ 0 ∷ 0 ∷ 0 ∷ 0 ∷ 0x00 ∷ 0x00 ∷ 0x00 ∷ 0 ∷ 0x00 ∷ 0x20 ∷ 0x00 ∷ []) ∷ [])
     ∷ []
 
 -- seen with a zero half font, an empty full font and phase 0; each row's frame is zero too

@@ -77,8 +77,8 @@ graphicSizes s row column =
     ∷ sizeOn s (GraphicHalf row column true)
     ∷ []
 
--- a panel without time whose link is idle and has the way's width, with frame and fonts that fit (with time a meter that waits is served
--- alike: `WaitingIsServed`)
+-- a panel without time whose link is idle and has the way's width, with frame and fonts that fit (with time, and a wait after each write, it is
+-- the same: `WaitingSenderIsServed`)
 pub record Begins (e : Seen) (way : Way) (s : State) (frame : List ℕ) : Type 0 where
   pub fits : Fits e frame
   pub idle : s .link ≡ idleOn way

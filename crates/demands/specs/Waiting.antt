@@ -1,10 +1,11 @@
 -- Request K1 on demand 2: a meter that waits after each call for as long as a clear takes is served as by a panel without time.
--- Proved in proofs/, as `waiting-is-served` and `waiting-sender-loses-none`.
+-- Proved in proofs/, as `waiting-is-served` and `waiting-sender-is-served`.
 use Prim.{Unit}
 use Prim.Native.Nat.{ℕ}
 use mathlib.Core.Bool.{true, false}
 use mathlib.Core.List.{List, [], _∷_}
 use mathlib.Core.Path.{_≡_}
+use Rattle.controller.specs.Instructions.{withTime}
 use Rattle.deeds.specs.Time.{busy}
 use Rattle.events.specs.declared.Event.{Event}
 use Rattle.events.specs.declared.Event.the-variants.{Pass}
@@ -12,7 +13,7 @@ use Rattle.connector.specs.Items.{WholeWrite}
 use Rattle.picture.specs.Picture.{Seen}
 use Rattle.calls.specs.State.{State, Valid}
 use Rattle.calls.specs.Calls.{Fits, afterCalls}
-use Rattle.demands.specs.Wires.{numbersOf, repliesOf, countsOf, boardOf, passing, Timely, NoneLost, items}
+use Rattle.demands.specs.Wires.{numbersOf, repliesOf, countsOf, Board, boardOf, given, itemCounts, passing, noTime, Timely, NoneLost, items}
 use Rattle.demands.specs.Lost.{withoutTime}
 use Rattle.demands.specs.WithoutTime.{isPass}
 
@@ -56,14 +57,23 @@ WaitingIsServed =
     → NonePass calls
     → ServedAlike e s frame calls
 
--- So the sender's writes, over any link, with such a wait after each: where there is time none is refused for want of it, and none is lost.
-pub record WaitingLosesNone (e : Seen) (s : State) (frame : List ℕ) (writes : List WholeWrite) : Type 0 where
+-- a board apart from its time
+abbrev pub boardWithoutTime : Board → Board
+boardWithoutTime b = record { memories = b .memories; control = withTime noTime (b .control); frame = b .frame }
+
+-- So it is with the sender's writes, over any link, and a wait between whole writes alone: where there is time none is refused for want of
+-- it, none is lost, and apart from time they leave and count what they do on the same panel without time
+pub record WritesServedAlike (e : Seen) (s : State) (frame : List ℕ) (writes : List WholeWrite) : Type 0 where
   pub timely : s .control .time .timed ≡ true → Timely (s .control) (spaced (passing enough) (items writes))
   pub noneLost : NoneLost e (boardOf s frame) (spaced (passing enough) (items writes))
+  pub boards : boardWithoutTime (given e s frame (spaced (passing enough) (items writes))) ≡ given e (withoutTime s) frame (items writes)
+  pub counts :
+      itemCounts e (boardOf s frame) (spaced (passing enough) (items writes))
+      ≡ spaced 0 (itemCounts e (boardOf (withoutTime s) frame) (items writes))
 
-abbrev pub WaitingSenderLosesNone : Type 0
-WaitingSenderLosesNone =
+abbrev pub WaitingSenderIsServed : Type 0
+WaitingSenderIsServed =
     (e : Seen) (s : State) (frame : List ℕ) (writes : List WholeWrite)
     → Valid s
     → busy (s .control) ≡ false
-    → WaitingLosesNone e s frame writes
+    → WritesServedAlike e s frame writes

@@ -10,8 +10,8 @@ use Rattle.controller.specs.declared.Time.{Time}
 use Rattle.controller.specs.declared.Control.{Control}
 use Rattle.controller.specs.Memories.{Memories}
 use Rattle.controller.specs.Instructions.{withFunction}
-use Rattle.deeds.specs.Time.{busy, cost}
-use Rattle.deeds.specs.Transfers.{Acted, acted, carriedOut, atCost, performed}
+use Rattle.deeds.specs.Time.{busy}
+use Rattle.deeds.specs.Transfers.{Acted, carriedOutAtCost, performed}
 use Rattle.events.specs.declared.Event.{Event}
 use Rattle.events.specs.declared.Event.the-variants as event
 use Rattle.events.specs.declared.Deed.the-variants as deeds
@@ -137,16 +137,10 @@ NoneLost e b [] = Unit {0}
 NoneLost e b (write w ∷ items) = (busy (b .control) ≡ false) × NoneLost e (board e .perform b (deed (write w)) .state) items
 NoneLost e b (besideWires x ∷ items) = NoneLost e (board e .perform b (x .deed) .state) items
 
--- a write carried out as document 01 says, at its cost
-abbrev pub writeCarriedOut : Board → Transfer → Acted
-writeCarriedOut b t =
-    let a : Acted = carriedOut (b .memories) (b .control) t in
-    acted (a .memories) (atCost (cost (b .control) t) (a .done))
-
--- and so are all of a list, in order
+-- each write of a list carried out as document 01 says, at its cost, in order
 unfoldable pub allCarriedOut : Seen → Board → List Item → Board
 allCarriedOut e b [] = b
-allCarriedOut e b (write w ∷ items) = allCarriedOut e (boardAfter e b (writeCarriedOut b (writing (w .register) (w .byte)))) items
+allCarriedOut e b (write w ∷ items) = allCarriedOut e (boardAfter e b (carriedOutAtCost (b .memories) (b .control) (writing (w .register) (w .byte)))) items
 allCarriedOut e b (besideWires x ∷ items) = allCarriedOut e (board e .perform b (x .deed) .state) items
 
 -- a list with nothing but writes
