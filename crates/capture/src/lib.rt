@@ -75,7 +75,8 @@ fn allowed(kind: u8, value: u8) -> bool
     }
 }
 
-// Reads the record at the beginning of a capture, or of the part of one that it is given.
+// Reads the record at the beginning of a capture, or of the part of one that it is given. Kind 7 is a record here; `taken_with` says what it
+// is to a panel.
 pub fn read(capture: &[u8]) -> Answer
     ensures { λ r. ⌜ r ≡ readFirst (now (capture .entry)) ⌝ }
 {

@@ -1,5 +1,5 @@
 // The controls that 26 bytes spell, in the order in which `unpacked` reads them. A byte that is out of range counts by the bits that it
-// should have.
+// should have; of the time that remains all 16 count.
 use controller::Control;
 use controller::Entry;
 use controller::Function;

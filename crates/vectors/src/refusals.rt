@@ -103,7 +103,7 @@ fn carry(panel: Panel, frame: &mut [u8], half: &[u8], full: &[u8]) -> Panel
 }
 
 // Chip select low, and time that passes on a panel without time.
-fn wait(panel: Panel, frame: &mut [u8], half: &[u8], full: &[u8]) -> Panel
+fn select_and_pass(panel: Panel, frame: &mut [u8], half: &[u8], full: &[u8]) -> Panel
     requires { ⌜ Valid (stateOf panel) ⌝ }
     ensures { λ r. ⌜ Valid (stateOf r) ⌝ }
 {
@@ -129,7 +129,7 @@ fn knock(panel: Panel, pin: Pin, frame: &mut [u8], half: &[u8], full: &[u8]) -> 
     ensures { λ r. ⌜ Valid (stateOf r) ⌝ }
 {
     let next = carry(panel, frame, half, full);
-    let last = wait(next, frame, half, full);
+    let last = select_and_pass(next, frame, half, full);
     restart(last, pin, frame, half, full)
 }
 
