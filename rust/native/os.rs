@@ -1,4 +1,4 @@
-//! The three C functions of the toolchain's library `os` that our programs reach, for processors other than x86-64: the toolchain has
+//! The four C functions of the toolchain's library `os` that our programs reach, for processors other than x86-64: the toolchain has
 //! them compiled for x86-64 alone. `tools/native` links them in place of those, and only there.
 use std::os::unix::ffi::OsStringExt;
 
@@ -16,6 +16,12 @@ pub extern "C" fn rattle_errno() -> i32 {
 pub extern "C" fn rattle_set_errno(error: i32) {
     // As above.
     unsafe { *__errno_location() = error };
+}
+
+/// How many arguments there are, the program's own name among them.
+#[no_mangle]
+pub extern "C" fn rattle_arg_count() -> usize {
+    std::env::args_os().count()
 }
 
 /// The argument's length, -1 where there is no such argument, or -2 where it does not fit.

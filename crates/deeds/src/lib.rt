@@ -164,7 +164,8 @@ fn at_cost(done: Done, cost: u16) -> Done
     next
 }
 
-// A transfer that would act: lost while busy, else carried out at its cost. A panel without time is spared both questions.
+// A transfer that would act: lost while busy, else carried out at its cost. A panel without time is spared the cost; there is one place where
+// transfers are carried out, so that a compiler can put all of it here.
 fn on_time(
     text: &mut [u8; 128],
     glyph: &mut [u8; 128],
@@ -175,15 +176,14 @@ fn on_time(
     requires { ⌜ InRange control ⌝ }
     ensures { λ r. ⌜ acted (after text glyph graphic) r ≡ onTime (before text glyph graphic) control transfer ⌝ }
 {
-    if !control.time.timed {
-        return carry_out(text, glyph, graphic, control, transfer);
-    }
     if is_lost(control, transfer) {
         return nothing_done(control);
     }
-    let cost = cost(control, transfer);
     let done = carry_out(text, glyph, graphic, control, transfer);
-    at_cost(done, cost)
+    if !control.time.timed {
+        return done;
+    }
+    at_cost(done, cost(control, transfer))
 }
 
 // Everything as fresh.

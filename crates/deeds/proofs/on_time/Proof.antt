@@ -14,13 +14,12 @@ on-time-spec =
     tie.close
     (tie.spec
     (λ c κs. search needs)
-    (λ c. c .carry-out .ensures ∙ sym (untimed _ _ _ (c .before .before .before .before .before .before .pre) (not-true _ (c .before .before .before .before .if1 .taken))))
+    (λ c κs. search needs)
+    (λ c. rw (c .nothing-done .ensures, ← c .before .before .is-lost .ensures, c .before .if1 .taken))
+    (λ c κs. search needs)
+    (λ c. c .before .before .carry-out .ensures ∙ sym (untimed _ _ _ (c .before .before .before .before .before .before .before .before .pre) (not-true _ (c .if2 .taken))))
     (λ c κs. search needs)
     (λ c κs. search needs)
-    (λ c. rw (c .nothing-done .ensures, ← c .before .before .is-lost .ensures, c .before .if2 .taken))
-    (λ c κs. search needs)
-    (λ c κs. search needs)
-    (λ c κs. search needs)
-    (λ c. let asked = c .before .before .before .before .before .before in let given = asked .before .before .before .before .args in
-    rw (c .at-cost .ensures, c .before .before .before .before .before .cost .ensures, ← asked .before .is-lost .ensures, asked .if2 .left)
-    (ap (λ (a : Acted). acted (a .memories) (atCost (cost (given .control) (given .transfer)) (a .done))) (c .before .carry-out2 .ensures))))
+    (λ c. let asked = c .before .before .before .before .before .before .before .before in let given = asked .before .before .args in
+    rw (c .at-cost .ensures, c .before .cost .ensures, ← asked .before .is-lost .ensures, asked .if1 .left)
+    (ap (λ (a : Acted). acted (a .memories) (atCost (cost (given .control) (given .transfer)) (a .done))) (c .before .before .before .before .carry-out .ensures))))
