@@ -15,7 +15,7 @@ use Rattle.base.specs.Choice.{if_then_else_}
 use Rattle.base.proofs.Choice.{either, either-told, by-test}
 use Rattle.capture.specs.declared.Answer.{Answer}
 use Rattle.capture.specs.declared.Answer.the-variants.{Record, Refused, End}
-use Rattle.capture.specs.Kinds.{kindOf, allowed}
+use Rattle.capture.specs.Kinds.{lastKind, kindOf, allowed}
 use Rattle.capture.specs.Record.{marked, kindByte, valueByte, readFirst, values}
 use Rattle.capture.specs.Capture.{passed, takenWith}
 use Rattle.capture.proofs.Answers.{judged, four-left, four-are-no-end, Numbered, read-numbered}
@@ -64,11 +64,6 @@ module _ (time : Bool) where
 
   pub taken-numbered : (c : List ℕ) → Numbered (takenWith time (readFirst c))
   taken-numbered c = still-numbered (readFirst c) (read-numbered c)
-
--- the last kind that a panel takes
-abbrev pub lastKind : Bool → ℕ
-lastKind true = 7
-lastKind false = 6
 
 -- the tests of four bytes, by a panel with or without time: 8 is given above its last kind, and before 9
 abbrev pub judgedWith : Bool → ℕ → ℕ → ℕ → ℕ → Answer

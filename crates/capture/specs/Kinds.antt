@@ -19,9 +19,14 @@ pub data Kind : Type 0 where
 abbrev pub kinds : List Kind
 kinds = instructionWrite ∷ dataWrite ∷ statusRead ∷ dataRead ∷ eightBits ∷ chipSelectLow ∷ reset ∷ timePasses ∷ []
 
--- refusal 8: a kind above 7 (7 itself is turned down behind this where the panel has no time)
+-- with time, kinds go to 7, without to 6
+abbrev pub lastKind : Bool → ℕ
+lastKind true = 7
+lastKind false = 6
+
+-- refusal 8: a kind that no panel has (7 itself is turned down behind this where the panel has no time)
 abbrev pub known : ℕ → Bool
-known number = leb number 7
+known number = leb number (lastKind true)
 
 -- the kind with a number (one that is not known is refused before)
 unfoldable pub kindOf : ℕ → Kind

@@ -100,7 +100,7 @@ scrolled rows v = record { scroll = rows; shift = v .shift; reversed = v .revers
 -- the table's entries, one by one
 unfoldable pub obeyed : Control → Instruction → Control
 obeyed c Ignored = c
-obeyed c Clear = home (begun c)
+obeyed c Clear = withEntry (record { id = true; s = c .entry .s }) (home (begun c))
 obeyed c Home = home (begun c)
 obeyed c (EntryMode id s) = withEntry (record { id = id; s = s }) (begun c)
 obeyed c (Display display cursor blink) = withShown (record { display = display; cursor = cursor; blink = blink }) (begun c)

@@ -285,7 +285,11 @@ impl Control {
         let next = self.begun();
         match instruction {
             Instruction::Ignored => self,
-            Instruction::Clear => next.home(),
+            Instruction::Clear => {
+                let s = self.entry.s;
+                let home = next.home();
+                home.with_entry(Entry { id: true, s })
+            }
             Instruction::Home => next.home(),
             Instruction::EntryMode { id, s } => next.with_entry(Entry { id, s }),
             Instruction::Display {

@@ -25,13 +25,14 @@ use Rattle.events.specs.declared.Deed.the-variants as deed
 use Rattle.controller.specs.declared.Waiting.{Waiting}
 use Rattle.controller.specs.declared.Waiting.the-variants as waiting
 use Rattle.controller.specs.declared.Place.{Place}
+use Rattle.controller.specs.declared.Entry.{Entry}
 use Rattle.controller.specs.declared.View.{View}
 use Rattle.controller.specs.declared.Time.{Time}
 use Rattle.controller.specs.declared.Control.{Control}
 use Rattle.deeds.specs.declared.Done.{Done}
 use Rattle.controller.specs.Memories.{Memories, memories, freshMemories}
 use Rattle.controller.specs.State.{freshControl, remade, limit, RowInRange, longest, InRange, AllInRange}
-use Rattle.controller.specs.Instructions.{withPlace, withView, withTime, withWaiting, pointed, begun, home, stepped, displayMoved, graphicAddressed, reverseToggled, scrolled, obeyed, cleared, modes}
+use Rattle.controller.specs.Instructions.{withPlace, withEntry, withView, withTime, withWaiting, pointed, begun, home, stepped, displayMoved, graphicAddressed, reverseToggled, scrolled, obeyed, cleared, modes}
 use Rattle.controller.specs.Data.{stored, nextCounter, moved, shifts, movedOn, dummyRead}
 use Rattle.deeds.specs.Time.{lost, instructionCost, cost, charged, elapsed}
 use Rattle.deeds.specs.Transfers.{Acted, executed, written, readOut, statusRead, carriedOut, atCost, onTime, performed}
@@ -133,8 +134,8 @@ module _ (c : Control) (r : InRange c) where
   looks : (v : View) → ViewIn v → InRange (withView v (begun c))
   looks v h = in-range _ (dropped-in _ (place-in c r)) h (r .remaining)
 
-  homes : InRange (home (begun c))
-  homes = in-range _ (pointed-in Text 0 _ (omega arith) (r .row)) (home-in _ (view-in c r)) (r .remaining)
+  homes : (e : Entry) → InRange (withEntry e (home (begun c)))
+  homes e = in-range _ (pointed-in Text 0 _ (omega arith) (r .row)) (home-in _ (view-in c r)) (r .remaining)
 
   moves : (t : Target) (right : Bool) → Keeps (ifText t (MoveCursor right))
   unfolding Keeps obeyed
@@ -145,8 +146,8 @@ module _ (c : Control) (r : InRange c) where
   basic-kept : (row : Row) (b : ℕ) → Keeps (table (modes c) row b .basic)
   unfolding Keeps obeyed
   basic-kept 00h b = r
-  basic-kept 01h b = homes
-  basic-kept 02h-03h b = homes
+  basic-kept 01h b = homes _
+  basic-kept 02h-03h b = homes (c .entry)
   basic-kept 04h-07h b = drops refl refl refl
   basic-kept 08h-0Fh b = drops refl refl refl
   basic-kept 10h-1Fh b =

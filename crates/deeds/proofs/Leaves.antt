@@ -5,11 +5,10 @@ use mathlib.Core.Path.{_≡_, refl}
 use Rattle.table.specs.declared.Instruction.the-variants.{Ignored}
 use Rattle.table.specs.Table.{said}
 use Rattle.controller.specs.declared.Control.{Control}
-use Rattle.controller.specs.declared.Region.the-variants.{Nothing}
 use Rattle.controller.specs.Memories.{Memories}
 use Rattle.controller.specs.Instructions.{obeyed, modes}
 use Rattle.controller.specs.Named.{instructionNames}
-use Rattle.deeds.specs.Transfers.{acted, executed}
+use Rattle.deeds.specs.Transfers.{acted, executed, nothingDone}
 
 not-both : (b : Bool) → (b && not b) ≡ false
 not-both true = refl
@@ -18,6 +17,6 @@ not-both false = refl
 pub ignored-leaves :
     (m : Memories) (c : Control) (b : ℕ)
     → said (modes c) b ≡ Ignored
-    → executed m c b ≡ acted m (record { control = c; reply = 0; region = Nothing })
+    → executed m c b ≡ acted m (nothingDone c)
 unfolding executed obeyed instructionNames
 ignored-leaves m c b e = rw (e, not-both (c .standby))

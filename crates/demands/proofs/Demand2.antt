@@ -24,6 +24,7 @@ use Rattle.picture.proofs.Accepted.{draws}
 use Rattle.calls.specs.Calls.{Called, unlessOther}
 use Rattle.demands.proofs.Agreement.{call-is-connected, sent-is-received, writes-are-received, links-agree}
 use Rattle.demands.proofs.Lost.{lost-when-busy, lost-leaves-all, quiet-calls-cost-nothing, carried-out-unless-lost, costs, status-shows-busy, pass-falls, time-is-kept, fresh-is-not-busy}
+use Rattle.demands.proofs.Direction.{clear-turns, home-does-not, others-do-not, else-as-home}
 use Rattle.demands.proofs.WithoutTime.{as-before-time, no-time-passes}
 use Rattle.demands.proofs.Waiting.{waiting-is-served}
 use Rattle.demands.proofs.Waits.{none-lost-without-time, waiting-sender-is-served}
@@ -72,6 +73,10 @@ demand-2 =
       resets = reset-fresh;
       selectLow = select-low-idles;
       draws = draws;
+      turns = clear-turns;
+      turnsNotByHome = home-does-not;
+      turnsNotByOthers = others-do-not;
+      elseAsHome = else-as-home;
       loses = lost-when-busy;
       leaves = lost-leaves-all;
       quiet = quiet-calls-cost-nothing;

@@ -9,6 +9,7 @@ pub mod NoneLost
 pub mod Timely
 pub mod Quiet
 pub mod Lost
+pub mod Direction
 pub mod WithoutTime
 pub mod Waiting
 pub mod Waits

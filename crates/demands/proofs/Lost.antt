@@ -20,7 +20,7 @@ use Rattle.controller.specs.Memories.{Memories}
 use Rattle.controller.specs.State.{freshControl}
 use Rattle.controller.specs.Instructions.{withTime, modes}
 use Rattle.deeds.specs.Time.{busy, busyBit, lost, instructionCost, cost, charged, elapsed}
-use Rattle.deeds.specs.Transfers.{Acted, acted, statusRead, carriedOut, nothingDone, atCost, onTime, performed}
+use Rattle.deeds.specs.Transfers.{Acted, acted, statusRead, carriedOut, nothingDone, carriedOutAtCost, onTime, performed}
 use Rattle.deeds.proofs.Untimed.{carriedOut-time, unlost-acted, uncharged}
 use Rattle.events.specs.declared.Event.{Event}
 use Rattle.events.specs.declared.Event.the-variants.{Bit, SelectLow, Reset, Pass}
@@ -46,7 +46,7 @@ use Rattle.calls.specs.Calls.{Called, refused, accepted, unlessOther, takenOn, 
 use Rattle.calls.proofs.Kept.{admitted, called-timed}
 use Rattle.demands.specs.Lost.{LostWhenBusy, Costs, Brings, LostLeavesAll, BringsNothing, QuietCallsCostNothing, apartFromTime, CarriedOutUnlessLost, StatusShowsBusy, PassFalls, TimeIsKept, FreshIsNotBusy}
 use Rattle.demands.proofs.Quiet.{unnamed-accepted}
-use Rattle.demands.proofs.Timely.{admitted-timely}
+use Rattle.demands.proofs.Timely.{admitted-timely, unpassed-timely}
 
 busy-lost : (c : Control) (t : Transfer) → t ≢ Status → busy c ≡ true ↔ (0 < c .time .remaining) × (t ≢ Status)
 busy-lost c t other = (λ h. (ltb-true 0 (c .time .remaining) h, other), λ h. lt-ltb 0 (c .time .remaining) (h .0))
@@ -85,27 +85,15 @@ costs =
       status = λ c. refl;
     }
 
--- what brings a transfer is not that time passes
-brings-in-time :
-    (e : Seen) (s : State) (frame : List ℕ) (call : Event) (t : Transfer) (rest : Rest)
-    → Brings s call t rest
-    → unlessTimeless e s frame call ≡ unlessOther e s frame (takenOn s call)
-unfolding takenBy
-brings-in-time e s frame (event.Transfer u) t rest b = refl
-brings-in-time e s frame (Bit bit) t rest b = refl
-brings-in-time e s frame SelectLow t rest b = refl
-brings-in-time e s frame (Reset pin) t rest b = refl
-brings-in-time e s frame (Pass value) t rest b = let same : deed.Pass value ≡ deed.Whole t = ap reaching b in absurd (true≢false cc)
-
 -- the transfer is done, lost or not
-brought :
+pub brought :
     (e : Seen) (s : State) (frame : List ℕ) (call : Event) (t : Transfer) (rest : Rest)
     → Fits e frame
     → Brings s call t rest
     → called e s frame call ≡ accepted e frame (onTime (s .memories) (s .control) t) rest
 unfolding performed
 brought e s frame call t rest h b =
-    admitted e s frame call h ∙ brings-in-time e s frame call t rest b ∙ ap (unlessOther e s frame) b
+    admitted-timely e s frame call h (unpassed-timely s call (ap reaching b) refl) ∙ ap (unlessOther e s frame) b
 
 -- with an answer of 0 the reply is 0, whole or halved: what hands over a kept reply brings no transfer
 abbrev ZeroBack : Carried → Type 0
@@ -153,8 +141,7 @@ reply-zero s call t rest b = subst ZeroTaken b (taken-zero (s .control .function
 lost-acted : (m : Memories) (c : Control) (t : Transfer) → lost c t ≡ true → onTime m c t ≡ acted m (nothingDone c)
 unfolding onTime
 lost-acted m c t l =
-    let out : Acted = carriedOut m c t in
-    ap (λ (x : Bool). if x then acted m (nothingDone c) else acted (out .memories) (atCost (cost c t) (out .done))) l
+    ap (λ (x : Bool). if x then acted m (nothingDone c) else carriedOutAtCost m c t) l
 
 pub lost-leaves-all : LostLeavesAll
 lost-leaves-all e s frame call t rest h b l =
@@ -177,9 +164,8 @@ charged-none t = ap (λ (n : ℕ). record { timed = t .timed; remaining = n }) (
 
 pub carried-out-unless-lost : CarriedOutUnlessLost
 carried-out-unless-lost e s frame call t rest h b l =
-    let out : Acted = carriedOut (s .memories) (s .control) t in
     let n : ℕ = cost (s .control) t in
-    let is : called e s frame call ≡ accepted e frame (acted (out .memories) (atCost n (out .done))) rest =
+    let is : called e s frame call ≡ accepted e frame (carriedOutAtCost (s .memories) (s .control) t) rest =
     brought e s frame call t rest h b ∙ ap (λ (a : Acted). accepted e frame a rest) (unlost-acted (s .memories) (s .control) t l) in
     let remains : called e s frame call .state .control .time .remaining ≡ charged n (s .control .time) .remaining =
     ap (λ (k : Called). k .state .control .time .remaining) is
@@ -252,24 +238,9 @@ pub fresh-is-not-busy : FreshIsNotBusy
 unfolding freshState freshControl
 fresh-is-not-busy made = refl
 
-isNothing : Deed → Bool
-isNothing deed.Nothing = true
-isNothing (deed.Whole t) = false
-isNothing (deed.Fresh pin) = false
-isNothing (deed.Pass value) = false
-
--- a call that brings nothing is not one that lets time pass
-quiet-timely : (s : State) (call : Event) (rest : Rest) → BringsNothing s call rest → timeless (s .control) call ≡ false
-unfolding takenBy isNothing
-quiet-timely s (event.Transfer t) rest q = refl
-quiet-timely s (Bit bit) rest q = refl
-quiet-timely s SelectLow rest q = refl
-quiet-timely s (Reset pin) rest q = refl
-quiet-timely s (Pass value) rest q = absurd (true≢false (sym (ap (λ (t : Taken). isNothing (reaching t)) q)))
-
 pub quiet-calls-cost-nothing : QuietCallsCostNothing
 unfolding performed
 quiet-calls-cost-nothing e s frame call rest h q =
-    admitted-timely e s frame call h (quiet-timely s call rest q)
+    admitted-timely e s frame call h (unpassed-timely s call (ap reaching q) refl)
     ∙ ap (unlessOther e s frame) q
     ∙ unnamed-accepted e frame (s .memories) (s .control) 0 rest

@@ -31,7 +31,7 @@ use Rattle.calls.specs.State.{State, state, freshState}
 use Rattle.calls.specs.Calls.{Called, accepted, refused, unlessOther, takenOn, timeless, Fits, called, afterCalls}
 use Rattle.demands.specs.Wires.{answers}
 use Rattle.calls.proofs.Kept.{admitted, still-fits}
-use Rattle.demands.specs.Readings.{Case, cases, timedCases, zeroFonts, Observed, observed, AllRead, AllHold, ReadingsHold, TimedReadingsHold}
+use Rattle.demands.specs.Readings.{Case, cases, timedCases, turnedCases, zeroFonts, Observed, observed, AllRead, AllHold, ReadingsHold, TimedReadingsHold, TurnedReadingsHold}
 
 -- what a call leaves but the frame
 pub record Told : Type 0 where
@@ -206,3 +206,22 @@ timed-rows-hold = (
 
 pub timed-readings-hold : TimedReadingsHold
 timed-readings-hold = all-hold timedCases timed-rows-hold
+
+turned-rows-hold : AllRows turnedCases
+unfolding AllRows Holds AllRead turnedCases allTold lastState tells answers called takenBy byWidth performed onTime carriedOut executed written readOut statusRead obeyed said rowOf stored found moved movedOn instructionNames writeNames readNames covers inCell shownRow shownWord named countNamed count refusalOf freshControl freshMemories freshState
+turned-rows-hold = (
+  inl (refl, (refl, (refl, (refl, (refl, tt))))),
+  (
+    inl (refl, (refl, (refl, (refl, tt)))),
+    (
+      inl (refl, (refl, (refl, tt))),
+      (
+        inl (refl, (refl, (refl, (refl, tt)))),
+        tt,
+      ),
+    ),
+  ),
+)
+
+pub turned-readings-hold : TurnedReadingsHold
+turned-readings-hold = all-hold turnedCases turned-rows-hold

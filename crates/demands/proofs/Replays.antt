@@ -26,7 +26,7 @@ use Rattle.demands.proofs.Timely.{admitted-timely}
 use Rattle.demands.specs.Wires.{answers, numbersOf}
 use Rattle.printed.specs.Text.{RecordAnswer, recordAnswer, line, lines, longestLine, hasRoom}
 use Rattle.demands.proofs.Sequences.{after-append, numbers-append, zeros-append}
-use Rattle.capture.specs.Kinds.{Kind, kindOf}
+use Rattle.capture.specs.Kinds.{Kind, lastKind, kindOf}
 use Rattle.capture.specs.Record.{number}
 use Rattle.capture.specs.Capture.{Recorded}
 use Rattle.capture.proofs.ByKind.{by-kind}
@@ -38,7 +38,7 @@ use Rattle.playback.proofs.Answers.{answerFrom}
 use Rattle.records.proofs.Refused.{one-or-bits, called-on-accepted, record-timed, record-length}
 use Rattle.playback.proofs.Parts.{contentsReplayed, replayed-place}
 use Rattle.demands.specs.Captures.{callsOf, callsOfAll, lastReply, sumOfCounts, answerOf, answersOf}
-use Rattle.demands.specs.Demand1.{TableSays, lastKind, isSerial, ofOtherLink, firstOfOtherLink, NoRoom, lineTooLong, uncounted, StopsAt, behindAll, atRecord, noRoom, ReplayStops, TranscriptRefuses, TranscriptTells, ExportedReplayRefuses}
+use Rattle.demands.specs.Demand1.{TableSays, isSerial, ofOtherLink, firstOfOtherLink, NoRoom, lineTooLong, uncounted, StopsAt, behindAll, atRecord, noRoom, ReplayStops, TranscriptRefuses, TranscriptTells, ExportedReplayRefuses}
 use Rattle.demands.proofs.Tables.{orWants, table-number, KindsIn, contents-in}
 use Rattle.demands.proofs.Calls.{call-number}
 

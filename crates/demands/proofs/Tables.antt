@@ -16,7 +16,7 @@ use Rattle.links.specs.Sender.{sent}
 use Rattle.picture.specs.Picture.{Seen}
 use Rattle.picture.specs.Refusals.{refusalOf}
 use Rattle.capture.specs.declared.Answer.{Answer}
-use Rattle.capture.specs.Kinds.{kindOf}
+use Rattle.capture.specs.Kinds.{lastKind, kindOf}
 use Rattle.capture.specs.Kinds as kinds
 use Rattle.capture.specs.Record as records
 use Rattle.capture.specs.declared.Answer.the-variants.{Record, Refused, End}
@@ -26,7 +26,7 @@ use Rattle.capture.proofs.ByKind.{by-kind}
 use Rattle.capture.proofs.Taken.{judgedWith, taken-four-left}
 use Rattle.demands.specs.Demand1.{GoodFullFont, TableSays, frameLength, halfFontLength, fullFontLength, wantOfTime, otherLink, allGood, OneNumber, OneAnswer}
 use Rattle.demands.specs.Demand1 as demands
-use Rattle.demands.specs.Demand1.{SenderSays, SendRefuses, Marked, Allowed, lastKind, RecordSays}
+use Rattle.demands.specs.Demand1.{SenderSays, SendRefuses, Marked, Allowed, RecordSays}
 
 -- the number of a call, from that of its buffers
 abbrev pub orWants : Bool → Bool → ℕ → ℕ

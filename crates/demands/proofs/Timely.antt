@@ -10,13 +10,15 @@ use Rattle.controller.specs.Named.{covers}
 use Rattle.deeds.specs.Transfers.{performed}
 use Rattle.events.specs.declared.Event.{Event}
 use Rattle.events.specs.declared.Event.the-variants.{Transfer, Bit, SelectLow, Reset, Pass}
+use Rattle.events.specs.declared.Deed.{Deed}
+use Rattle.events.specs.declared.Deed.the-variants as deed
 use Rattle.links.specs.Taken.{takenBy}
 use Rattle.connector.specs.Items.{WholeWrite, Item, write, besideWires, Way, wholeBytes, halves, serial, bitsOf, writeEvents, onward, wires, Alike, none, writes, events}
 use Rattle.picture.specs.Picture.{Seen}
 use Rattle.repaint.specs.Repaint.{named}
 use Rattle.links.specs.Sender.{threeBytes}
 use Rattle.calls.specs.State.{State}
-use Rattle.calls.specs.Calls.{refused, unlessOther, takenOn, timeless, Fits, called}
+use Rattle.calls.specs.Calls.{refused, unlessOther, takenOn, reaching, timeless, Fits, called}
 use Rattle.calls.proofs.Kept.{admitted}
 use Rattle.demands.specs.Wires.{Timely, items}
 use Rattle.demands.specs.Demand3.{namedBy}
@@ -30,6 +32,23 @@ pub admitted-timely :
 admitted-timely e s frame call h w =
     admitted e s frame call h
     ∙ ap (λ (x : Bool). if x then refused s frame 8 else unlessOther e s frame (takenOn s call)) w
+
+-- whether a deed is that time passes
+abbrev pub isPassed : Deed → Bool
+isPassed deed.Nothing = false
+isPassed (deed.Whole t) = false
+isPassed (deed.Fresh pin) = false
+isPassed (deed.Pass eights) = true
+
+-- what brings anything else, or nothing, is not refused so
+pub unpassed-timely :
+    (s : State) (call : Event) {d : Deed} → reaching (takenOn s call) ≡ d → isPassed d ≡ false → timeless (s .control) call ≡ false
+unfolding takenBy
+unpassed-timely s (Transfer t) h o = refl
+unpassed-timely s (Bit b) h o = refl
+unpassed-timely s SelectLow h o = refl
+unpassed-timely s (Reset pin) h o = refl
+unpassed-timely s (Pass eights) h o = absurd (true≢false (ap isPassed h ∙ o))
 
 -- one that is names nothing
 pub timeless-names : (s : State) (call : Event) (i : ℕ) → timeless (s .control) call ≡ true → namedBy s call i ≡ false

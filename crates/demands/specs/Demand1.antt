@@ -22,6 +22,7 @@ use Rattle.calls.specs.Calls.{timeless, called, refused, afterCalls}
 use Rattle.demands.specs.Wires.{numbersOf}
 use Rattle.capture.specs.declared.Answer.{Answer}
 use Rattle.capture.specs.declared.Answer.the-variants.{Record, Refused, End}
+use Rattle.capture.specs.Kinds.{lastKind}
 use Rattle.capture.specs.Record.{kindByte, valueByte, readFirst, number}
 use Rattle.capture.specs.Capture.{Recorded, takenWith}
 use Rattle.printed.specs.Text.{RecordAnswer, lines, longestLine}
@@ -100,11 +101,6 @@ pub record Allowed (kind value : ℕ) : Type 0 where
   pub dataRead : kind ≡ 3 → value ≡ 0
   pub selectLow : kind ≡ 5 → value ≡ 0
   pub reset : kind ≡ 6 → value ≤ 1
-
--- with time, kinds go to 7, without to 6
-abbrev pub lastKind : Bool → ℕ
-lastKind true = 7
-lastKind false = 6
 
 -- what stands at the beginning of a capture, to a panel with or without time, with its number: 6 to 9 in their order; 0 for the end, and
 -- for a record

@@ -28,6 +28,7 @@ use Rattle.demands.specs.Wires.{board}
 use Rattle.demands.specs.Stored.{WordsStored}
 use Rattle.demands.specs.ReadBack.{ReadBack}
 use Rattle.demands.specs.Lost.{LostWhenBusy, Costs, LostLeavesAll, QuietCallsCostNothing, CarriedOutUnlessLost, StatusShowsBusy, PassFalls, TimeIsKept, FreshIsNotBusy}
+use Rattle.demands.specs.Direction.{ClearTurns, HomeDoesNot, OthersDoNot, ElseAsHome}
 use Rattle.demands.specs.WithoutTime.{AsBeforeTime, NoTimePasses}
 use Rattle.demands.specs.Waiting.{WaitingIsServed, WaitingSenderIsServed}
 use Rattle.demands.specs.Agreement.{CallIsConnected, SentIsReceived, WritesAreReceived, CarriedOutWhereNoneLost, NoneLostWithoutTime, LinksAgree, FunctionSetsKeepDl}
@@ -117,6 +118,11 @@ pub record Demand2 : Type 0 where
   pub resets : ResetIsFresh
   pub selectLow : SelectLowIdles
   pub draws : DrawnIsPicture
+  -- clear turns the direction to the right, home and all others do not; else it leaves what home leaves
+  pub turns : ClearTurns
+  pub turnsNotByHome : HomeDoesNot
+  pub turnsNotByOthers : OthersDoNot
+  pub elseAsHome : ElseAsHome
   -- with time: what a busy panel loses, what every other transfer does and costs, and how time passes
   pub loses : LostWhenBusy
   pub leaves : LostLeavesAll

@@ -6,6 +6,7 @@ pub mod Readings
 pub mod Stored
 pub mod ReadBack
 pub mod Lost
+pub mod Direction
 pub mod WithoutTime
 pub mod Waiting
 pub mod Demand2

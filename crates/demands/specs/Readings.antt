@@ -1,6 +1,7 @@
--- Document 01, "Panel readings to be proved": one statement over one table, and one over a second, of a panel with time. Each row has the calls made from fresh and what is read off
--- then, by the definitions that the contracts of the public calls cite. `ReadingsHold` and `TimedReadingsHold` are proved
--- in proofs/, as `readings-hold` and `timed-readings-hold`.
+-- Document 01, "Panel readings to be proved": one statement over one table; and one each over a second, of a panel with time (request K1),
+-- and a third, of a clear that turns the direction (K2). Each row has the calls made from fresh and what is read off then, by the definitions
+-- that the contracts of the public calls cite. `ReadingsHold`, `TimedReadingsHold` and `TurnedReadingsHold` are proved in proofs/, as
+-- `readings-hold`, `timed-readings-hold` and `turned-readings-hold`.
 use Prim.{Unit}
 use Prim.Native.Nat.{ℕ, _+_, _*_}
 use mathlib.Core.Bool.{Bool, true, false}
@@ -126,6 +127,41 @@ timedCases =
     (replies (0 ∷ 0 ∷ 0 ∷ 0 ∷ 0 ∷ 0x00 ∷ 0x00 ∷ 0x00 ∷ 0 ∷ 0x00 ∷ 0x20 ∷ 0x00 ∷ []) ∷ [])
     ∷ []
 
+-- the same of the direction. 1: with I/D at 0 a menu is written and left by a clear; the two words behind it stand from left to right. 2: behind
+-- home, which turns nothing, the second word stands to the left of word 0, as word 63. 3: S stays, so a word behind the clear shifts the
+-- display, and names all. 4: with time, a clear that is lost turns nothing
+unfoldable pub turnedCases : List Case
+turnedCases =
+    inCase 1
+    (instruct 0x04
+    ∷ instruct 0x85
+    ∷ writeData 0x4F
+    ∷ writeData 0x4B
+    ∷ instruct 0x01
+    ∷ writeData 0x2D
+    ∷ writeData 0x37
+    ∷ writeData 0x2E
+    ∷ writeData 0x35
+    ∷ readStatus
+    ∷ [])
+    (textWord 0 0x2D37 ∷ textWord 1 0x2E35 ∷ textWord 5 0x2020 ∷ replies (0 ∷ 0 ∷ 0 ∷ 0 ∷ 0 ∷ 0 ∷ 0 ∷ 0 ∷ 0 ∷ 0x02 ∷ []) ∷ [])
+    ∷ inCase 2 (instruct 0x04 ∷ instruct 0x02 ∷ writeData 0x2D ∷ writeData 0x37 ∷ writeData 0x2E ∷ writeData 0x35 ∷ readStatus ∷ [])
+    (textWord 0 0x2D37 ∷ textWord 63 0x2E35 ∷ replies (0 ∷ 0 ∷ 0 ∷ 0 ∷ 0 ∷ 0 ∷ 0x3E ∷ []) ∷ [])
+    ∷ inCase 3 (instruct 0x05 ∷ instruct 0x01 ∷ writeData 0x2D ∷ writeData 0x37 ∷ readStatus ∷ [])
+    (replies (0 ∷ 0 ∷ 0 ∷ 0 ∷ 0x01 ∷ []) ∷ counts (1024 ∷ 1024 ∷ 32 ∷ 1024 ∷ 0 ∷ []) ∷ [])
+    ∷ inTimedCase 4
+    (instruct 0x04
+    ∷ instruct 0x01
+    ∷ letPass 9
+    ∷ writeData 0x2D
+    ∷ letPass 9
+    ∷ writeData 0x37
+    ∷ letPass 9
+    ∷ readStatus
+    ∷ [])
+    (textWord 0 0x2D37 ∷ replies (0 ∷ 0 ∷ 0 ∷ 0 ∷ 0 ∷ 0 ∷ 0 ∷ 0x3F ∷ []) ∷ counts (1024 ∷ 0 ∷ 0 ∷ 32 ∷ 0 ∷ 32 ∷ 0 ∷ 0 ∷ []) ∷ [])
+    ∷ []
+
 -- seen with a zero half font, an empty full font and phase 0; each row's frame is zero too
 abbrev pub zeroFonts : Seen
 zeroFonts = record { fonts = record { half = replicate 2048 0; full = [] }; phase = false }
@@ -175,3 +211,6 @@ ReadingsHold = AllHold cases
 
 abbrev pub TimedReadingsHold : Type 0
 TimedReadingsHold = AllHold timedCases
+
+abbrev pub TurnedReadingsHold : Type 0
+TurnedReadingsHold = AllHold turnedCases

@@ -1,4 +1,4 @@
--- Request K1 left what there was: a panel without time does what document 01 said before there was time.
+-- Request K1 left what there was: a panel without time does what a panel does that knows nothing of time.
 -- Each statement is proved in proofs/, under its own name in small letters (`AsBeforeTime` as `as-before-time`).
 use Prim.Native.Nat.{ℕ}
 use mathlib.Core.Bool.{Bool, true, false}

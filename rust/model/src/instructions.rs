@@ -133,9 +133,10 @@ pub(crate) fn execute(panel: &mut Panel, instruction: Instruction) {
 
     match instruction {
         Instruction::Ignored => {}
-        // Clear: text bytes 20h, then as home.
+        // Clear: text bytes 20h, I/D 1, then as home; S stays (reading 46).
         Instruction::Clear => {
             panel.text = [0x2020; 64];
+            panel.id = true;
             home(panel);
         }
         Instruction::Home => home(panel),

@@ -16,7 +16,8 @@
 //! | Captures | `captures`, `replay` |
 //!
 //! A panel may be made with time, as document 02 asks: `time` says when it is
-//! busy, what that loses and what each transfer costs.
+//! busy, what that loses and what each transfer costs. Clear also sets I/D to
+//! 1, as document 02 asks.
 
 mod bytes;
 mod calls;

@@ -1,4 +1,4 @@
--- Carried out alone where there is no time; else lost, or carried out at its cost.
+-- Lost; or carried out, and that alone where there is no time, else at its cost.
 use borrow.Author.Needs.{needs}
 use borrow.Author.Tests.{not-true}
 use mathlib.Core.Path.{_∙_, ap, sym}

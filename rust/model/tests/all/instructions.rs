@@ -217,6 +217,8 @@ fn reading_7_clear_home_and_display_shift() {
         }
         let mut clear = home.clone();
         clear.text = [0x2020; 64];
+        // Reading 46: clear also sets I/D to 1, and S stays.
+        clear.id = true;
         let mut bench = Bench::with(before.clone());
         bench.instruction(0x01);
         assert_eq!(bench.panel, clear);

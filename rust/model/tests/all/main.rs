@@ -4,6 +4,7 @@
 mod agreement;
 mod bench;
 mod calls;
+mod clear;
 mod data;
 mod instructions;
 mod panel_readings;
