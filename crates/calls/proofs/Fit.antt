@@ -11,7 +11,7 @@ use Rattle.controller.specs.Memories.{Memories}
 use Rattle.controller.specs.State.{InRange, remade}
 use Rattle.controller.specs.Instructions.{obeyed, modes}
 use Rattle.controller.specs.Data.{movedOn}
-use Rattle.deeds.specs.Time.{lost, cost}
+use Rattle.time.specs.Time.{lost, cost}
 use Rattle.deeds.specs.Transfers.{Acted, acted, executed, written, readOut, statusRead, carriedOut, onTime, performed}
 use Rattle.deeds.proofs.Kept.{fresh-in-range, obeyed-in-range, movedOn-in-range, dummyRead-in-range, cost-most, atCost-in-range, elapsed-in-range}
 use Rattle.events.specs.declared.Transfer.{Transfer}

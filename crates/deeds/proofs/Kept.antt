@@ -34,7 +34,7 @@ use Rattle.controller.specs.Memories.{Memories, memories, freshMemories}
 use Rattle.controller.specs.State.{freshControl, remade, limit, RowInRange, longest, InRange, AllInRange}
 use Rattle.controller.specs.Instructions.{withPlace, withEntry, withView, withTime, withWaiting, pointed, begun, home, stepped, displayMoved, graphicAddressed, reverseToggled, scrolled, obeyed, cleared, modes}
 use Rattle.controller.specs.Data.{stored, nextCounter, moved, shifts, movedOn, dummyRead}
-use Rattle.deeds.specs.Time.{lost, instructionCost, cost, charged, elapsed}
+use Rattle.time.specs.Time.{lost, instructionCost, cost, charged, elapsed}
 use Rattle.deeds.specs.Transfers.{Acted, executed, written, readOut, statusRead, carriedOut, atCost, onTime, performed}
 
 record PlaceIn (p : Place) : Type 0 where

@@ -21,7 +21,7 @@ use Rattle.controller.specs.State.{freshControl, longest, InRange}
 use Rattle.controller.specs.Instructions.{withTime, obeyed, modes}
 use Rattle.controller.specs.Data.{movedOn}
 use Rattle.deeds.specs.declared.Done.{Done}
-use Rattle.deeds.specs.Time.{busy, lost, cost, charged}
+use Rattle.time.specs.Time.{busy, lost, cost, charged}
 use Rattle.deeds.specs.Transfers.{Acted, acted, executed, written, readOut, statusRead, carriedOut, nothingDone, atCost, carriedOutAtCost, onTime, performed}
 
 -- what is carried out leaves the time

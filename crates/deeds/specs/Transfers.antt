@@ -17,7 +17,7 @@ use Rattle.controller.specs.State.{freshControl, remade}
 use Rattle.controller.specs.Instructions.{withTime, obeyed, cleared, modes}
 use Rattle.controller.specs.Data.{stored, found, movedOn, dummyRead}
 use Rattle.controller.specs.Named.{instructionNames, writeNames, readNames}
-use Rattle.deeds.specs.Time.{busyBit, lost, cost, charged, elapsed}
+use Rattle.time.specs.Time.{busyBit, lost, cost, charged, elapsed}
 
 -- what a transfer leaves: the memories, and the rest
 pub record Acted : Type 0 where

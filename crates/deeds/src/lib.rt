@@ -1,11 +1,4 @@
 // What reaches the controller is done here, and nowhere else: each transfer whole, reset, and time that passes, on lent memories.
-mod time;
-
-use crate::time::busy_bit;
-use crate::time::charged;
-use crate::time::cost;
-use crate::time::elapsed;
-use crate::time::is_lost;
 use controller::Control;
 use controller::Region;
 use controller::data::find;
@@ -17,6 +10,11 @@ use events::Deed;
 use events::Made;
 use events::Transfer;
 use table::Touch;
+use time::busy_bit;
+use time::charged;
+use time::cost;
+use time::elapsed;
+use time::is_lost;
 ghost use mathlib.Core.Path.{_≡_};
 ghost use mathlib.Core.List.{List};
 ghost use Prim.Native.Nat.{ℕ};

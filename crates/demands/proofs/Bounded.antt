@@ -20,7 +20,7 @@ use Rattle.deeds.specs.declared.Done.{Done}
 use Rattle.controller.specs.Memories.{Memories}
 use Rattle.controller.specs.Data.{completes, shifts, movedOn}
 use Rattle.controller.specs.Named.{covers, textNames, writeByTarget, writeNames, readNames, bothCells}
-use Rattle.deeds.specs.Time.{lost}
+use Rattle.time.specs.Time.{lost}
 use Rattle.deeds.specs.Transfers.{Acted, written, readOut, carriedOut, onTime, performed}
 use Rattle.events.specs.declared.Event.{Event}
 use Rattle.events.specs.declared.Transfer.{Transfer}

@@ -21,7 +21,7 @@ use Rattle.controller.specs.Data.{movedOn}
 use Rattle.controller.specs.Named.{instructionNames, writeNames, readNames}
 use Rattle.base.specs.Choice.{if_then_else_}
 use Rattle.table.specs.Touches.{touches}
-use Rattle.deeds.specs.Time.{lost, instructionCost, cost}
+use Rattle.time.specs.Time.{lost, instructionCost, cost}
 use Rattle.deeds.specs.Transfers.{Acted, acted, obeyedActed, executed, written, readOut, statusRead, carriedOut, nothingDone, atCost, onTime, performed}
 use Rattle.events.specs.declared.Transfer.{Transfer}
 use Rattle.events.specs.declared.Transfer.the-variants.{Instruct, Write, Status, Read}

@@ -5,7 +5,7 @@ use Rattle.controller.specs.declared.Time.{Time}
 use Rattle.controller.specs.declared.Control.{Control}
 use Rattle.controller.specs.Memories.{Memories}
 use Rattle.controller.specs.Instructions.{withTime}
-use Rattle.deeds.specs.Time.{cost, charged}
+use Rattle.time.specs.Time.{cost, charged}
 use Rattle.deeds.specs.Transfers.{Acted, acted, carriedOut, onTime}
 use Rattle.deeds.proofs.Untimed.{carriedOut-time, never-lost, unlost-acted}
 use Rattle.events.specs.declared.Transfer.{Transfer}

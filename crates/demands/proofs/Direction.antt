@@ -16,7 +16,7 @@ use Rattle.controller.specs.declared.Region.the-variants.{Whole}
 use Rattle.controller.specs.Memories.{Memories}
 use Rattle.controller.specs.Instructions.{withEntry, obeyed, cleared, modes}
 use Rattle.controller.specs.Named.{instructionNames}
-use Rattle.deeds.specs.Time.{busy, instructionCost}
+use Rattle.time.specs.Time.{busy, instructionCost}
 use Rattle.deeds.specs.Transfers.{Acted, acted, obeyedActed, executed, carriedOut, atCost, onTime}
 use Rattle.deeds.proofs.Untimed.{unlost-acted}
 use Rattle.events.specs.declared.Event.{Event}

@@ -19,7 +19,7 @@ use Rattle.controller.specs.Memories.{Memories}
 use Rattle.controller.specs.Instructions as instructions
 use Rattle.controller.specs.Instructions.{obeyed, modes}
 use Rattle.controller.specs.Data.{movedOn}
-use Rattle.deeds.specs.Time.{lost}
+use Rattle.time.specs.Time.{lost}
 use Rattle.deeds.specs.Transfers.{Acted, executed, written, carriedOut, onTime, performed}
 use Rattle.links.specs.Halves as halves
 use Rattle.connector.specs.Items.{WholeWrite, wholeBytes, halves, serial}

@@ -19,7 +19,7 @@ use Rattle.controller.specs.declared.Control.{Control}
 use Rattle.controller.specs.Memories.{Memories}
 use Rattle.controller.specs.State.{freshControl}
 use Rattle.controller.specs.Instructions.{withTime, modes}
-use Rattle.deeds.specs.Time.{busy, busyBit, lost, instructionCost, cost, charged, elapsed}
+use Rattle.time.specs.Time.{busy, busyBit, lost, instructionCost, cost, charged, elapsed}
 use Rattle.deeds.specs.Transfers.{Acted, acted, statusRead, carriedOut, nothingDone, carriedOutAtCost, onTime, performed}
 use Rattle.deeds.proofs.Untimed.{carriedOut-time, unlost-acted, uncharged}
 use Rattle.events.specs.declared.Event.{Event}

@@ -4,7 +4,7 @@ use mathlib.Core.Bool.{Bool, true, false}
 use mathlib.Core.List.{List, [], _∷_}
 use mathlib.Core.Path.{_≡_, refl, ap, _∙_}
 use Rattle.controller.specs.declared.Control.{Control}
-use Rattle.deeds.specs.Time.{busy, lost}
+use Rattle.time.specs.Time.{busy, lost}
 use Rattle.deeds.specs.Transfers.{Acted, performed}
 use Rattle.deeds.proofs.Untimed.{unlost-acted}
 use Rattle.links.specs.Halves.{writing}

@@ -12,7 +12,7 @@ use Rattle.controller.specs.Memories.{Memories}
 use Rattle.controller.specs.State.{InRange}
 use Rattle.controller.specs.Instructions.{modes}
 use Rattle.controller.specs.Named.{covers}
-use Rattle.deeds.specs.Time.{lost}
+use Rattle.time.specs.Time.{lost}
 use Rattle.deeds.specs.Transfers.{Acted, executed, statusRead, carriedOut, onTime, performed}
 use Rattle.events.specs.declared.Event.{Event}
 use Rattle.events.specs.declared.Transfer.{Transfer}

@@ -8,7 +8,7 @@ use lib.Dec.{eqb}
 use Rattle.base.proofs.Choice.{either}
 use Rattle.controller.specs.declared.Control.{Control}
 use Rattle.controller.specs.Memories.{Memories}
-use Rattle.deeds.specs.Time.{lost}
+use Rattle.time.specs.Time.{lost}
 use Rattle.deeds.specs.Transfers.{Acted, executed, written, carriedOut, onTime, performed}
 use Rattle.events.specs.declared.Event.{Event}
 use Rattle.events.specs.declared.Event.the-variants.{Transfer, Bit, SelectLow, Reset, Pass}

@@ -18,7 +18,7 @@ use Rattle.controller.specs.State.{freshControl, longest}
 use Rattle.controller.specs.Instructions.{withTime, obeyed, modes}
 use Rattle.controller.specs.Data.{movedOn}
 use Rattle.controller.specs.Named.{instructionNames, writeNames, readNames}
-use Rattle.deeds.specs.Time.{busy, cost}
+use Rattle.time.specs.Time.{busy, cost}
 use Rattle.deeds.specs.Transfers.{Acted, acted, obeyedActed, executed, written, readOut, statusRead, carriedOut, nothingDone, atCost, performed}
 use Rattle.deeds.proofs.Untimed.{never-lost, unlost-acted}
 use Rattle.events.specs.declared.Event.{Event}

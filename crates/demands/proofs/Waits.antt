@@ -10,7 +10,7 @@ use Rattle.base.proofs.Choice.{either}
 use Rattle.controller.specs.declared.Control.{Control}
 use Rattle.controller.specs.State.{longest, InRange, AllInRange}
 use Rattle.controller.specs.Instructions.{withTime}
-use Rattle.deeds.specs.Time.{busy, elapsed}
+use Rattle.time.specs.Time.{busy, elapsed}
 use Rattle.deeds.specs.Transfers.{Acted, performed}
 use Rattle.deeds.proofs.Kept.{performed-valid}
 use Rattle.deeds.proofs.Untimed.{performed-timed, not-busy}

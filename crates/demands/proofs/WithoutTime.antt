@@ -13,7 +13,7 @@ use Rattle.controller.specs.declared.Region.the-variants as region
 use Rattle.controller.specs.Memories.{Memories}
 use Rattle.controller.specs.State.{InRange}
 use Rattle.controller.specs.Instructions.{withTime}
-use Rattle.deeds.specs.Time.{busy, elapsed}
+use Rattle.time.specs.Time.{busy, elapsed}
 use Rattle.deeds.specs.Transfers.{Acted, acted, statusRead, carriedOut, nothingDone, performed}
 use Rattle.deeds.proofs.Untimed.{not-busy, untimed}
 use Rattle.events.specs.declared.Event.{Event}

@@ -9,7 +9,7 @@ use Rattle.table.specs.declared.Instruction.the-variants.{Clear, Home, EntryMod
 use Rattle.table.specs.Table.{said}
 use Rattle.controller.specs.declared.Control.{Control}
 use Rattle.controller.specs.Instructions.{withEntry, obeyed, modes}
-use Rattle.deeds.specs.Time.{busy}
+use Rattle.time.specs.Time.{busy}
 use Rattle.events.specs.declared.Event.{Event}
 use Rattle.events.specs.declared.Transfer.the-variants.{Instruct}
 use Rattle.links.specs.declared.Rest.{Rest}

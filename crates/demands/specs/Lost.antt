@@ -10,7 +10,7 @@ use Rattle.table.specs.declared.Instruction.the-variants.{Ignored, Clear}
 use Rattle.table.specs.Table.{said}
 use Rattle.controller.specs.declared.Control.{Control}
 use Rattle.controller.specs.Instructions.{withTime, modes}
-use Rattle.deeds.specs.Time.{busy, lost, cost}
+use Rattle.time.specs.Time.{busy, lost, cost}
 use Rattle.deeds.specs.Transfers.{carriedOut}
 use Rattle.events.specs.declared.Event.{Event}
 use Rattle.events.specs.declared.Event.the-variants.{Pass}

@@ -6,7 +6,7 @@ use mathlib.Core.Bool.{true, false}
 use mathlib.Core.List.{List, [], _∷_}
 use mathlib.Core.Path.{_≡_}
 use Rattle.controller.specs.Instructions.{withTime}
-use Rattle.deeds.specs.Time.{busy}
+use Rattle.time.specs.Time.{busy}
 use Rattle.events.specs.declared.Event.{Event}
 use Rattle.events.specs.declared.Event.the-variants.{Pass}
 use Rattle.connector.specs.Items.{WholeWrite}

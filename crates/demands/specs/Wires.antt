@@ -10,7 +10,7 @@ use Rattle.controller.specs.declared.Time.{Time}
 use Rattle.controller.specs.declared.Control.{Control}
 use Rattle.controller.specs.Memories.{Memories}
 use Rattle.controller.specs.Instructions.{withFunction}
-use Rattle.deeds.specs.Time.{busy}
+use Rattle.time.specs.Time.{busy}
 use Rattle.deeds.specs.Transfers.{Acted, carriedOutAtCost, performed}
 use Rattle.events.specs.declared.Event.{Event}
 use Rattle.events.specs.declared.Event.the-variants as event

@@ -2,7 +2,7 @@
 use borrow.Author.Needs.{needs}
 use borrow.Author.Tests.{not-true}
 use mathlib.Core.Path.{_∙_, ap, sym}
-use Rattle.deeds.specs.Time.{cost}
+use Rattle.time.specs.Time.{cost}
 use Rattle.deeds.specs.Transfers.{Acted, acted, atCost, onTime}
 use Rattle.deeds.proofs.Untimed.{untimed}
 use Rattle.deeds.proofs.on_time.Statement.{statement}

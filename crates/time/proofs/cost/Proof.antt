@@ -1,7 +1,7 @@
 -- By the transfer.
 use borrow.Author.Needs.{needs}
-use Rattle.deeds.proofs.time.cost.Statement.{statement}
-use Rattle.deeds.proofs.time.cost.Tie as tie
+use Rattle.time.proofs.cost.Statement.{statement}
+use Rattle.time.proofs.cost.Tie as tie
 
 pub cost-spec : {M : Type 1} → statement M
 cost-spec =

@@ -1,8 +1,8 @@
 -- By whether the panel is busy.
 use native.Mathlib.Omega.{arith}
 use borrow.Author.Needs.{needs}
-use Rattle.deeds.proofs.time.busy_bit.Statement.{statement}
-use Rattle.deeds.proofs.time.busy_bit.Tie as tie
+use Rattle.time.proofs.busy_bit.Statement.{statement}
+use Rattle.time.proofs.busy_bit.Tie as tie
 
 pub busy-bit-spec : {M : Type 1} → statement M
 busy-bit-spec =

@@ -3,8 +3,8 @@ use Prim.Native.Nat.{ℕ, _-_, _≤_}
 use mathlib.Core.Path.{_≡_}
 use native.Mathlib.Omega.{arith}
 use borrow.Author.Needs.{needs}
-use Rattle.deeds.proofs.time.elapsed.Statement.{statement}
-use Rattle.deeds.proofs.time.elapsed.Tie as tie
+use Rattle.time.proofs.elapsed.Statement.{statement}
+use Rattle.time.proofs.elapsed.Tie as tie
 
 none-left : (a b : ℕ) → a ≤ b → a - b ≡ 0
 none-left a b h = omega (arith, h)

@@ -1,7 +1,7 @@
 -- By the transfer.
 use borrow.Author.Needs.{needs}
-use Rattle.deeds.proofs.time.is_lost.Statement.{statement}
-use Rattle.deeds.proofs.time.is_lost.Tie as tie
+use Rattle.time.proofs.is_lost.Statement.{statement}
+use Rattle.time.proofs.is_lost.Tie as tie
 
 pub is-lost-spec : {M : Type 1} → statement M
 is-lost-spec =

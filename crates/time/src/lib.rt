@@ -5,7 +5,7 @@ use events::Transfer;
 use table::Touch;
 ghost use mathlib.Core.Path.{_≡_};
 ghost use Prim.Native.Nat.{_≤_};
-ghost use Rattle.deeds.specs.Time.{busy, busyBit, lost, instructionCost, cost, charged, elapsed};
+ghost use Rattle.time.specs.Time.{busy, busyBit, lost, instructionCost, cost, charged, elapsed};
 
 fn is_busy(control: Control) -> bool
     ensures { λ r. ⌜ r ≡ busy control ⌝ }
@@ -14,7 +14,7 @@ fn is_busy(control: Control) -> bool
 }
 
 // Bit 7 of a status read.
-pub(crate) fn busy_bit(control: Control) -> u8
+pub fn busy_bit(control: Control) -> u8
     ensures { λ r. ⌜ r ≡ busyBit control ⌝ }
     ensures small { λ r. ⌜ r ≤ 128 ⌝ }
 {
@@ -25,7 +25,7 @@ pub(crate) fn busy_bit(control: Control) -> u8
 }
 
 // While busy everything is lost but a status read.
-pub(crate) fn is_lost(control: Control, transfer: Transfer) -> bool
+pub fn is_lost(control: Control, transfer: Transfer) -> bool
     ensures { λ r. ⌜ r ≡ lost control transfer ⌝ }
 {
     match transfer {
@@ -48,7 +48,7 @@ fn instruction_cost(touch: Touch) -> u16
     }
 }
 
-pub(crate) fn cost(control: Control, transfer: Transfer) -> u16
+pub fn cost(control: Control, transfer: Transfer) -> u16
     ensures { λ r. ⌜ r ≡ cost control transfer ⌝ }
 {
     match transfer {
@@ -63,7 +63,7 @@ pub(crate) fn cost(control: Control, transfer: Transfer) -> u16
 }
 
 // What costs something makes a panel with time busy for as long.
-pub(crate) fn charged(time: Time, cost: u16) -> Time
+pub fn charged(time: Time, cost: u16) -> Time
     ensures { λ r. ⌜ r ≡ charged cost time ⌝ }
 {
     if !time.timed {
@@ -78,7 +78,7 @@ pub(crate) fn charged(time: Time, cost: u16) -> Time
 }
 
 // The remaining time falls to 0 and no lower.
-pub(crate) fn elapsed(time: Time, eights: u8) -> Time
+pub fn elapsed(time: Time, eights: u8) -> Time
     ensures { λ r. ⌜ r ≡ elapsed eights time ⌝ }
 {
     let passed = eights as u16 * 8;

@@ -1,8 +1,8 @@
 -- By whether it is charged.
 use native.Mathlib.Omega.{arith}
 use borrow.Author.Tests.{not-true, not-false, lt-ltb}
-use Rattle.deeds.proofs.time.charged.Statement.{statement}
-use Rattle.deeds.proofs.time.charged.Tie as tie
+use Rattle.time.proofs.charged.Statement.{statement}
+use Rattle.time.proofs.charged.Tie as tie
 
 pub charged-spec : {M : Type 1} → statement M
 charged-spec =

@@ -1,7 +1,7 @@
 -- By what is touched.
 use borrow.Author.Needs.{needs}
-use Rattle.deeds.proofs.time.instruction_cost.Statement.{statement}
-use Rattle.deeds.proofs.time.instruction_cost.Tie as tie
+use Rattle.time.proofs.instruction_cost.Statement.{statement}
+use Rattle.time.proofs.instruction_cost.Tie as tie
 
 pub instruction-cost-spec : {M : Type 1} → statement M
 instruction-cost-spec =
