@@ -10,7 +10,7 @@ use links::Rest;
 use links::Taken;
 use picture::looks::look;
 use picture::refusals::refusal;
-use repaint::paint;
+use regions::paint;
 ghost use mathlib.Core.Path.{_≡_};
 ghost use lib.ListN.{length};
 ghost use Rattle.controller.specs.Memories.{before, after};

@@ -109,7 +109,7 @@ fn paint_word(
 }
 
 // A cell, where there is one.
-pub(crate) fn paint_cell(
+pub fn paint_cell(
     text: &[u8; 128],
     glyph: &[u8; 128],
     graphic: &[u8; 2048],

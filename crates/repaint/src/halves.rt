@@ -16,7 +16,7 @@ ghost use Rattle.picture.specs.Picture.{fonts, byteOver, byteAt, wide};
 ghost use Rattle.repaint.specs.Repaint.{ViewWithin, painting, paintsOn, showsPlace};
 
 // The column of a half of the sixteen words of a row.
-pub(crate) fn byte_column(word: u32, low: bool) -> u32
+pub fn byte_column(word: u32, low: bool) -> u32
     requires { ⌜ word < 16 ⌝ }
     ensures { λ r. ⌜ r ≡ 2 * word + half low ⌝ }
     ensures inside { λ r. ⌜ r < 32 ⌝ }
@@ -84,7 +84,7 @@ fn paint_image_row(
 
 // A half of a glyph word: each byte showing that half of that image row. It shows on two rows of the glass, sixteen apart, and is the
 // same byte before what lies over it.
-pub(crate) fn paint_glyph_half(
+pub fn paint_glyph_half(
     text: &[u8; 128],
     glyph: &[u8; 128],
     graphic: &[u8; 2048],
@@ -108,7 +108,7 @@ pub(crate) fn paint_glyph_half(
 }
 
 // The byte of graphic row y at a column, if visible.
-pub(crate) fn paint_graphic_byte(
+pub fn paint_graphic_byte(
     text: &[u8; 128],
     glyph: &[u8; 128],
     graphic: &[u8; 2048],

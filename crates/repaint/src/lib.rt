@@ -1,10 +1,8 @@
-// Painting the bytes that a transfer names, and no others, into a frame that the caller lends; and counting them.
+// Painting the bytes that a transfer names, and no others, into a frame that the caller lends; and counting them: a cell, a half of an image
+// wherever it shows, a graphic byte. Crate `regions` puts them together.
 // The memories and controls are those after the transfer, and what the frame held before does not matter.
-mod cells;
-mod halves;
-mod regions;
-
-pub use regions::paint;
+pub mod cells;
+pub mod halves;
 
 // One byte of an image: a half of a glyph word, and the dots that it holds.
 pub(crate) struct ImageByte {

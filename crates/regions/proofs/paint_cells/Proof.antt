@@ -2,10 +2,10 @@
 use borrow.Author.Needs.{needs}
 use mathlib.Core.Path.{_∙_, sym}
 use native.Mathlib.Omega.{arith}
 use Rattle.repaint.proofs.Paintings.{paints-le}
 use Rattle.repaint.proofs.TwoCells.{cells-as-one, cells-as-two}
-use Rattle.repaint.proofs.regions.paint_cells.Statement.{statement}
-use Rattle.repaint.proofs.regions.paint_cells.Tie as tie
+use Rattle.regions.proofs.paint_cells.Statement.{statement}
+use Rattle.regions.proofs.paint_cells.Tie as tie
 
 pub paint-cells-spec : {M : Type 1} → statement M
 paint-cells-spec =

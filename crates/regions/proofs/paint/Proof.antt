@@ -2,9 +2,9 @@
 use borrow.Author.Needs.{needs}
 use mathlib.Core.Path.{_∙_}
 use Rattle.controller.specs.Memories.{memories}
 use Rattle.repaint.proofs.RegionSets.{nothing-painted, whole-painted, glyph-painted, graphic-painted, at-its-most}
-use Rattle.repaint.proofs.regions.paint.Statement.{statement}
-use Rattle.repaint.proofs.regions.paint.Tie as tie
+use Rattle.regions.proofs.paint.Statement.{statement}
+use Rattle.regions.proofs.paint.Tie as tie
 
 pub paint-spec : {M : Type 1} → statement M
 paint-spec =

@@ -1,19 +1,19 @@
-// A region, whatever it is.
-use crate::cells::paint_cell;
-use crate::halves::byte_column;
-use crate::halves::paint_glyph_half;
-use crate::halves::paint_graphic_byte;
+// A region of the glass, whatever it is: all of it, cells, a half of an image or a graphic byte; painted and counted.
 use controller::Cell;
 use controller::Region;
 use drawing::paint_whole;
 use picture::Look;
+use repaint::cells::paint_cell;
+use repaint::halves::byte_column;
+use repaint::halves::paint_glyph_half;
+use repaint::halves::paint_graphic_byte;
 ghost use mathlib.Core.Path.{_≡_};
 ghost use Prim.Native.Nat.{_≤_};
 ghost use lib.ListN.{length};
 ghost use Rattle.controller.specs.Memories.{before};
 ghost use Rattle.controller.specs.declared.Region.the-variants.{Cells};
 ghost use Rattle.picture.specs.Picture.{fonts, wide};
 ghost use Rattle.repaint.specs.Repaint.{ViewWithin, painting, repaint, cellWithin, regionWithin, mostOf, sameCell};
 
 // Whether two cells are one: then it is painted and counted once.
 fn same_cell(a: Cell, b: Cell) -> bool

@@ -1,7 +1,7 @@
 -- By the two cells.
 use borrow.Author.Needs.{needs}
-use Rattle.repaint.proofs.regions.same_cell.Statement.{statement}
-use Rattle.repaint.proofs.regions.same_cell.Tie as tie
+use Rattle.regions.proofs.same_cell.Statement.{statement}
+use Rattle.regions.proofs.same_cell.Tie as tie
 
 pub same-cell-spec : {M : Type 1} → statement M
 same-cell-spec =
