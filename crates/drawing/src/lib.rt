@@ -1,7 +1,6 @@
 // The picture drawn afresh into a frame that the caller lends: a word is looked up once for all rows of its cell, and a line once for its
 // band of rows.
 mod afresh;
-pub mod tiles;
 mod whole;
 
 pub use afresh::draw;

@@ -1,7 +1,7 @@
 // The whole picture: band by band, each the rows of the glass that show one line of text. A line's cells are looked up once.
-use crate::tiles::lay_line;
 use picture::Look;
 use picture::shown::shown_row;
+use tiles::lay_line;
 ghost use mathlib.Core.Path.{_≡_};
 ghost use mathlib.Core.Bool.{false};
 ghost use Prim.Native.Nat.{_+_, _*_, _-_, _/_, _%_, _<_, _≤_};

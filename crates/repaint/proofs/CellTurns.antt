@@ -21,7 +21,7 @@ use Rattle.controller.specs.Named.{inCell}
 use Rattle.base.specs.Lists.{upto}
 use Rattle.picture.specs.Picture.{Fonts, byteAt, wide}
 use Rattle.picture.specs.Tiles.{tileByte, shownBy, inCellRow}
-use Rattle.drawing.proofs.Laid.{byte-shown-by}
+use Rattle.tiles.proofs.Laid.{byte-shown-by}
 use Rattle.picture.proofs.Wide.{cell-row-counted}
 use Rattle.repaint.specs.Repaint.{ViewWithin, painting, paintsOn, runTop, runFirst, runEnd, inColumns}
 use Rattle.repaint.proofs.Records.{painting-both, painting-count, painting-frame}

@@ -1,9 +1,9 @@
 // A cell: its two columns on the visible rows of its line.
 use controller::Cell;
-use drawing::tiles::lay_tile;
-use drawing::tiles::tile_pair;
 use picture::Look;
 use picture::paint::paint_row;
+use tiles::lay_tile;
+use tiles::tile_pair;
 ghost use mathlib.Core.Path.{_≡_};
 ghost use Prim.Native.Nat.{_+_, _*_, _<_, _≤_};
 ghost use lib.ListN.{length};

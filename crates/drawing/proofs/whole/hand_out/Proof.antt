@@ -7,7 +7,7 @@ use mathlib.Core.Path.{_≡_, _∙_}
 use Rattle.base.specs.Painting.{painted, everywhere, between}
 use Rattle.base.proofs.Loops.{paint-begin}
 use Rattle.picture.specs.Tiles.{fromTiles}
-use Rattle.drawing.proofs.Laid.{out-turn}
+use Rattle.tiles.proofs.Laid.{out-turn}
 use Rattle.base.proofs.Painting.{as-long}
 use Rattle.drawing.proofs.whole.hand_out.Statement.{statement}
 use Rattle.drawing.proofs.whole.hand_out.Tie as tie

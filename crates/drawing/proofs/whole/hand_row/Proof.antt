@@ -7,7 +7,7 @@ use mathlib.Core.Path.{_≡_}
 use Rattle.base.specs.Painting.{painted, everywhere, between}
 use Rattle.base.proofs.Copies.{none-yet, two-further}
 use Rattle.picture.specs.Tiles.{fromTiles}
-use Rattle.drawing.proofs.Laid.{taken-left, taken-right}
+use Rattle.tiles.proofs.Laid.{taken-left, taken-right}
 use Rattle.drawing.proofs.whole.hand_row.Statement.{statement}
 use Rattle.drawing.proofs.whole.hand_row.Tie as tie
 

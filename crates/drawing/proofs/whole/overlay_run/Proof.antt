@@ -7,7 +7,7 @@ use mathlib.Core.Path.{_≡_}
 use Rattle.base.specs.Painting.{painted, everywhere, between}
 use lib.Bits.{bitXor}
 use Rattle.base.proofs.Copies.{none-yet}
-use Rattle.drawing.proofs.Laid.{over-turn}
+use Rattle.tiles.proofs.Laid.{over-turn}
 use Rattle.drawing.proofs.whole.overlay_run.Statement.{statement}
 use Rattle.drawing.proofs.whole.overlay_run.Tie as tie
 

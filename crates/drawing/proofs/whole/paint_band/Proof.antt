@@ -4,7 +4,7 @@ use native.Mathlib.Omega.{arith}
 use Prim.Native.Nat.{_-_}
 use Rattle.controller.specs.Memories.{memories}
 use Rattle.base.proofs.Painting.{as-long}
-use Rattle.drawing.proofs.Laid.{over-fits, band-painted}
+use Rattle.tiles.proofs.Laid.{over-fits, band-painted}
 use Rattle.drawing.proofs.whole.paint_band.Statement.{statement}
 use Rattle.drawing.proofs.whole.paint_band.Tie as tie
 

@@ -8,7 +8,7 @@ use Rattle.base.specs.Layout.{paintedOn}
 use Rattle.controller.specs.Memories.{memories}
 use Rattle.picture.specs.Picture.{byteAt, wide, picture}
 use Rattle.picture.specs.Tiles.{inRows}
-use Rattle.drawing.proofs.Laid.{dark-picture}
+use Rattle.tiles.proofs.Laid.{dark-picture}
 use Rattle.picture.proofs.Wide.{bands-begin, bands-turn, bands-end}
 use Rattle.drawing.proofs.whole.paint_whole.Statement.{statement}
 use Rattle.drawing.proofs.whole.paint_whole.Tie as tie

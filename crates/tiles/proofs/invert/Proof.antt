@@ -7,8 +7,8 @@ use mathlib.Core.Path.{_≡_, refl, ap}
 use Rattle.base.specs.Painting.{painted, everywhere, between}
 use Rattle.base.proofs.Loops.{paint-begin}
 use Rattle.base.proofs.Copies.{one-further, not-yet}
-use Rattle.drawing.proofs.tiles.invert.Statement.{statement}
-use Rattle.drawing.proofs.tiles.invert.Tie as tie
+use Rattle.tiles.proofs.invert.Statement.{statement}
+use Rattle.tiles.proofs.invert.Tie as tie
 
 abbrev Inv-loop : tie.InvT-loop
 Inv-loop tiles₀ from to i₀ tiles i = (from ≤ i) × (i ≤ to) × (length tiles ≡ length tiles₀) × (tiles ≡ painted (between from i everywhere) (λ k. 0xFF - getD tiles₀ k 0) tiles₀)

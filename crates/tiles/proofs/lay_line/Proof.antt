@@ -2,9 +2,9 @@
 use borrow.Author.Needs.{needs}
 use native.Mathlib.Omega.{arith}
 use Prim.Native.Nat.{_<_}
-use Rattle.drawing.proofs.Laid.{line-marked}
-use Rattle.drawing.proofs.tiles.lay_line.Statement.{statement}
-use Rattle.drawing.proofs.tiles.lay_line.Tie as tie
+use Rattle.tiles.proofs.Laid.{line-marked}
+use Rattle.tiles.proofs.lay_line.Statement.{statement}
+use Rattle.tiles.proofs.lay_line.Tie as tie
 
 pub lay-line-spec : {M : Type 1} → statement M
 lay-line-spec =

@@ -7,9 +7,9 @@ use mathlib.Core.Path.{_≡_, refl, _∙_}
 use Rattle.base.specs.Painting.{painted, everywhere, between}
 use Rattle.base.proofs.Loops.{paint-begin, paint-every}
 use Rattle.picture.specs.Tiles.{wordDots, lineWord, byTile}
-use Rattle.drawing.proofs.Laid.{words-turn}
-use Rattle.drawing.proofs.tiles.lay_words.Statement.{statement}
-use Rattle.drawing.proofs.tiles.lay_words.Tie as tie
+use Rattle.tiles.proofs.Laid.{words-turn}
+use Rattle.tiles.proofs.lay_words.Statement.{statement}
+use Rattle.tiles.proofs.lay_words.Tie as tie
 
 abbrev Inv-loop : tie.InvT-loop
 Inv-loop text glyph shift line tiles₀ half full cell₀ tiles cell = (cell ≤ 16) × (length tiles ≡ 512) × (tiles ≡ painted (between 0 (32 * cell) everywhere) (byTile (λ k j. wordDots (record { half = half; full = full }) text glyph (lineWord shift line k) j)) tiles₀)

@@ -1,9 +1,9 @@
 -- Both bytes lit.
 use borrow.Author.Needs.{needs}
 use mathlib.Core.Path.{ap₂, _∙_}
-use Rattle.drawing.proofs.Laid.{pairOf, pair-shown-by}
-use Rattle.drawing.proofs.tiles.tile_pair.Statement.{statement}
-use Rattle.drawing.proofs.tiles.tile_pair.Tie as tie
+use Rattle.tiles.proofs.Laid.{pairOf, pair-shown-by}
+use Rattle.tiles.proofs.tile_pair.Statement.{statement}
+use Rattle.tiles.proofs.tile_pair.Tie as tie
 
 pub tile-pair-spec : {M : Type 1} → statement M
 tile-pair-spec =

@@ -1,9 +1,9 @@
 -- The word laid, and marked.
 use borrow.Author.Needs.{needs}
-use Rattle.drawing.proofs.Laid.{tile-marked}
+use Rattle.tiles.proofs.Laid.{tile-marked}
 use Rattle.base.proofs.Copies.{whole-stretch}
-use Rattle.drawing.proofs.tiles.lay_tile.Statement.{statement}
-use Rattle.drawing.proofs.tiles.lay_tile.Tie as tie
+use Rattle.tiles.proofs.lay_tile.Statement.{statement}
+use Rattle.tiles.proofs.lay_tile.Tie as tie
 
 pub lay-tile-spec : {M : Type 1} → statement M
 lay-tile-spec =

@@ -109,7 +109,7 @@ fn counter_tile(counter: u32, shift: u32) -> u32
 }
 
 // All sixteen tiles of a line, with everything over them but the graphic.
-pub(crate) fn lay_line(
+pub fn lay_line(
     text: &[u8; 128],
     glyph: &[u8; 128],
     look: Look,

@@ -3,8 +3,8 @@ use borrow.Author.Needs.{needs}
 use Prim.Native.Nat.{_-_}
 use mathlib.Core.Path.{refl, sym}
 use Rattle.base.proofs.Painting.{painted-none}
-use Rattle.drawing.proofs.tiles.invert_if.Statement.{statement}
-use Rattle.drawing.proofs.tiles.invert_if.Tie as tie
+use Rattle.tiles.proofs.invert_if.Statement.{statement}
+use Rattle.tiles.proofs.invert_if.Tie as tie
 
 pub invert-if-spec : {M : Type 1} → statement M
 invert-if-spec =

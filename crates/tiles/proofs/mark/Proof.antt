@@ -1,8 +1,8 @@
 -- Stage over stage.
 use borrow.Author.Needs.{needs}
-use Rattle.drawing.proofs.Laid.{stages}
-use Rattle.drawing.proofs.tiles.mark.Statement.{statement}
-use Rattle.drawing.proofs.tiles.mark.Tie as tie
+use Rattle.tiles.proofs.Laid.{stages}
+use Rattle.tiles.proofs.mark.Statement.{statement}
+use Rattle.tiles.proofs.mark.Tie as tie
 
 pub mark-spec : {M : Type 1} → statement M
 mark-spec =

@@ -6,8 +6,8 @@ use lib.ListN.{length-set}
 use mathlib.Core.Path.{refl, sym}
 use Rattle.base.proofs.Loops.{pair-painted}
 use Rattle.base.proofs.Painting.{painted-none}
-use Rattle.drawing.proofs.tiles.fill_cursor.Statement.{statement}
-use Rattle.drawing.proofs.tiles.fill_cursor.Tie as tie
+use Rattle.tiles.proofs.fill_cursor.Statement.{statement}
+use Rattle.tiles.proofs.fill_cursor.Tie as tie
 
 pub fill-cursor-spec : {M : Type 1} → statement M
 fill-cursor-spec =

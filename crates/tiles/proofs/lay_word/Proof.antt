@@ -1,8 +1,8 @@
 -- The tile of what the word shows.
 use borrow.Author.Needs.{needs}
 use Rattle.picture.proofs.Bytes.{word-inside}
-use Rattle.drawing.proofs.tiles.lay_word.Statement.{statement}
-use Rattle.drawing.proofs.tiles.lay_word.Tie as tie
+use Rattle.tiles.proofs.lay_word.Statement.{statement}
+use Rattle.tiles.proofs.lay_word.Tie as tie
 
 pub lay-word-spec : {M : Type 1} → statement M
 lay-word-spec =
