@@ -5,7 +5,7 @@ use panel::Panel;
 use picture::refusals::refusal;
 use spelling::last_bytes;
 use spelling::spell_state;
-use state_bytes::unpack;
+use unpacking::unpack;
 ghost use mathlib.Core.Path.{_≡_};
 ghost use Rattle.controller.specs.Memories.{before};
 ghost use Rattle.picture.specs.Picture.{seen};

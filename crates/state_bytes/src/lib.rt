@@ -1,7 +1,5 @@
-// The controls as 26 bytes and the link as 10, for what crosses the border to other languages.
+// The controls as 26 bytes and the link as 10, for what crosses the border to other languages. Crate `unpacking` reads the controls back.
 mod packing;
-mod unpacking;
 
 pub use packing::pack;
 pub use packing::pack_link;
-pub use unpacking::unpack;

@@ -1,8 +1,8 @@
 -- The parts that the callees give.
 use borrow.Author.Needs.{needs}
 use Rattle.state_bytes.specs.Packed.{placeFrom}
-use Rattle.state_bytes.proofs.unpacking.place.Statement.{statement}
-use Rattle.state_bytes.proofs.unpacking.place.Tie as tie
+use Rattle.unpacking.proofs.place.Statement.{statement}
+use Rattle.unpacking.proofs.place.Tie as tie
 
 pub place-spec : {M : Type 1} → statement M
 unfolding placeFrom

@@ -1,8 +1,8 @@
 -- The parts that the callees give.
 use borrow.Author.Needs.{needs}
 use Rattle.state_bytes.specs.Packed.{unpacked}
-use Rattle.state_bytes.proofs.unpacking.unpack.Statement.{statement}
-use Rattle.state_bytes.proofs.unpacking.unpack.Tie as tie
+use Rattle.unpacking.proofs.unpack.Statement.{statement}
+use Rattle.unpacking.proofs.unpack.Tie as tie
 
 pub unpack-spec : {M : Type 1} → statement M
 unfolding unpacked

@@ -1,6 +1,6 @@
 -- By whether a row waits.
-use Rattle.state_bytes.proofs.unpacking.waiting.Statement.{statement}
-use Rattle.state_bytes.proofs.unpacking.waiting.Tie as tie
+use Rattle.unpacking.proofs.waiting.Statement.{statement}
+use Rattle.unpacking.proofs.waiting.Tie as tie
 
 pub waiting-spec : {M : Type 1} → statement M
 waiting-spec =

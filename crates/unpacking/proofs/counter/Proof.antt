@@ -1,7 +1,7 @@
 -- By the target.
 use borrow.Author.Needs.{needs}
-use Rattle.state_bytes.proofs.unpacking.counter.Statement.{statement}
-use Rattle.state_bytes.proofs.unpacking.counter.Tie as tie
+use Rattle.unpacking.proofs.counter.Statement.{statement}
+use Rattle.unpacking.proofs.counter.Tie as tie
 
 pub counter-spec : {M : Type 1} → statement M
 counter-spec =

@@ -1,7 +1,7 @@
 -- By the two tests.
 use borrow.Author.Tests.{ne-eqb}
-use Rattle.state_bytes.proofs.unpacking.target.Statement.{statement}
-use Rattle.state_bytes.proofs.unpacking.target.Tie as tie
+use Rattle.unpacking.proofs.target.Statement.{statement}
+use Rattle.unpacking.proofs.target.Tie as tie
 
 pub target-spec : {M : Type 1} → statement M
 target-spec =
