@@ -10,7 +10,7 @@ ghost use mathlib.Core.Path.{_≡_};
 ghost use Rattle.controller.specs.Memories.{before};
 ghost use Rattle.picture.specs.Picture.{seen};
 ghost use Rattle.picture.specs.Refusals.{drawing, drawn};
-ghost use Rattle.links.specs.Sender.{leaving, sent};
+ghost use Rattle.sender.specs.Sender.{leaving, sent};
 ghost use Rattle.state_bytes.specs.Packed.{unpacked};
 ghost use Rattle.boundary.specs.Report.{report, freshReplay};
 
@@ -37,7 +37,7 @@ pub extern "C" fn zifqarell_draw(
 pub extern "C" fn zifqarell_send(register: bool, byte: u8, buffer: &mut [u8]) -> u8
     ensures { λ r. ⌜ leaving r (now (buffer .exit)) ≡ sent register byte (now (buffer .entry)) ⌝ }
 {
-    links::send(register, byte, buffer)
+    sender::send(register, byte, buffer)
 }
 
 // Replays a capture on a fresh panel, with or without time, and answers the number with which that stopped, 0 at the end of the

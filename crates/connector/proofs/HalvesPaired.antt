@@ -3,12 +3,12 @@ use Prim.Native.Nat.{ℕ, _<_}
 use mathlib.Core.Path.{_≡_, refl, ap, _∙_, subst}
 use mathlib.Core.Bool.{Bool, true, false}
 use native.Mathlib.Omega.{arith}
-use Rattle.base.specs.Bits.{bits3-0}
+use Rattle.base.specs.Bits.{bits7-4, bits3-0, raised}
 use Rattle.events.specs.declared.Transfer.the-variants.{Status, Read}
 use Rattle.links.specs.declared.Pairing.the-variants.{Empty, Upper, Lower}
 use Rattle.events.specs.declared.Deed.the-variants.{Nothing, Whole}
 use Rattle.links.specs.declared.Link.the-variants.{Parallel}
-use Rattle.links.specs.Halves.{bits7-4, raised, joined, writing, reading, kept, acts, writeHalf, readHalf, paired, firstReply}
+use Rattle.links.specs.Halves.{joined, writing, reading, kept, acts, writeHalf, readHalf, paired, firstReply}
 use Rattle.links.specs.Taken.{byWidth}
 use Rattle.connector.specs.Items.{above}
 use Rattle.connector.specs.Connector.{Performed, Controller, Came, comes}

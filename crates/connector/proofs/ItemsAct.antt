@@ -5,7 +5,7 @@ use mathlib.Core.Path.{_≡_, refl, sym, ap, _∙_, subst}
 use mathlib.Core.Bool.{Bool, true, false}
 use mathlib.Core.List.{List, [], _∷_, _++_, map}
 use lib.ListN.{replicate}
-use Rattle.base.specs.Bits.{bits3-0}
+use Rattle.base.specs.Bits.{bits7-4, bits3-0}
 use Rattle.events.specs.declared.Event.{Event}
 use Rattle.events.specs.declared.Event.the-variants.{Transfer, Bit}
 use Rattle.events.specs.declared.Deed.{Deed}
@@ -20,9 +20,9 @@ use Rattle.serial.specs.declared.Receiver.the-variants.{Outside}
 use Rattle.serial.specs.declared.Received.{Received}
 use Rattle.serial.specs.declared.Received.the-variants.{Nothing, Byte}
 use Rattle.links.specs.declared.Carried.{Carried}
-use Rattle.links.specs.Halves.{bits7-4, writing, acts, paired}
+use Rattle.links.specs.Halves.{writing, acts, paired}
 use Rattle.connector.specs.Listened.{Listened, listened}
-use Rattle.links.specs.Sender.{threeBytes}
+use Rattle.sender.specs.Sender.{threeBytes}
 use Rattle.links.specs.Taken.{byWidth, takenBy, deedOf}
 use Rattle.connector.specs.Items.{WholeWrite, Item, write, besideWires, Way, wholeBytes, halves, serial, above, bitsOf, writeEvents, writeDeeds, onward, wires, wireDeeds, syncAfter, Alike, none, writes, events}
 use Rattle.connector.specs.Connector.{Performed, Controller, Connected, CameAll, Comes, elsewhere, comes, preceded, rests, carriedAt, eventAt, runs, act, does, HasDl, KeepsDl, Idles}

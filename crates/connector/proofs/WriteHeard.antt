@@ -6,7 +6,7 @@ use mathlib.Core.List.{List, [], _∷_, _++_}
 use lib.ListN.{replicate}
 use native.Mathlib.Omega.{arith}
 use Rattle.base.specs.Choice.{if_then_else_}
-use Rattle.base.specs.Bits.{bit, bits3-0}
+use Rattle.base.specs.Bits.{bit, bits7-4, bits3-0, raised}
 use Rattle.base.proofs.Below.{below, _&_}
 use Rattle.serial.specs.declared.Sync.{Sync}
 use Rattle.serial.specs.declared.Sync.the-variants.{Body}
@@ -14,10 +14,9 @@ use Rattle.serial.specs.declared.Receiver.{Receiver}
 use Rattle.serial.specs.declared.Receiver.the-variants.{Outside}
 use Rattle.serial.specs.declared.Received.{Received}
 use Rattle.serial.specs.declared.Received.the-variants.{Nothing, Byte}
-use Rattle.links.specs.Halves.{bits7-4, raised}
 use Rattle.serial.specs.Serial.{counted, afterHeader, headerBit, pushed, bodyBit, completed, heard}
 use Rattle.connector.specs.Listened.{Listened, listened}
-use Rattle.links.specs.Sender.{headerByte, highestFirst}
+use Rattle.sender.specs.Sender.{headerByte, highestFirst}
 use Rattle.connector.specs.Items.{bitsOf}
 use Rattle.connector.specs.Statements.{LastBitActs}
 

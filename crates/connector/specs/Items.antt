@@ -4,7 +4,7 @@ use mathlib.Core.Path.{_≡_}
 use mathlib.Core.Bool.{Bool, true, false}
 use mathlib.Core.List.{List, [], _∷_, _++_, map}
 use lib.ListN.{replicate}
-use Rattle.base.specs.Bits.{bits3-0}
+use Rattle.base.specs.Bits.{bits7-4, bits3-0, raised}
 use Rattle.events.specs.declared.Event.{Event}
 use Rattle.events.specs.declared.Event.the-variants.{Transfer, Bit}
 use Rattle.events.specs.declared.Deed.{Deed}
@@ -16,9 +16,9 @@ use Rattle.serial.specs.declared.Sync.{Sync}
 use Rattle.serial.specs.declared.Sync.the-variants.{Body}
 use Rattle.serial.specs.declared.Receiver.the-variants.{Outside}
 use Rattle.links.specs.declared.Taken.the-variants.{Carries}
-use Rattle.links.specs.Halves.{bits7-4, raised, writing}
+use Rattle.links.specs.Halves.{writing}
 use Rattle.links.specs.Idle.{idle}
-use Rattle.links.specs.Sender.{threeBytes, highestFirst}
+use Rattle.sender.specs.Sender.{threeBytes, highestFirst}
 use Rattle.links.specs.Taken.{stays, takenBy}
 
 -- a byte written to a register

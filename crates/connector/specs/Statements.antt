@@ -7,7 +7,7 @@ use mathlib.Core.Path.{_≡_}
 use mathlib.Core.Bool.{Bool, true, false}
 use mathlib.Core.List.{List, [], _∷_, _++_}
 use lib.ListN.{length, replicate}
-use Rattle.base.specs.Bits.{bits3-0}
+use Rattle.base.specs.Bits.{bits7-4, bits3-0}
 use Rattle.links.specs.declared.Pairing.the-variants.{Empty, Upper}
 use Rattle.events.specs.declared.Deed.the-variants.{Whole}
 use Rattle.links.specs.declared.Link.the-variants.{Parallel}
@@ -16,9 +16,9 @@ use Rattle.serial.specs.declared.Sync.the-variants.{Body}
 use Rattle.serial.specs.declared.Receiver.{Receiver}
 use Rattle.serial.specs.declared.Receiver.the-variants.{Outside}
 use Rattle.serial.specs.declared.Received.the-variants.{Nothing, Byte}
-use Rattle.links.specs.Halves.{bits7-4, joined, writing, reading, kept, acts, paired}
+use Rattle.links.specs.Halves.{joined, writing, reading, kept, acts, paired}
 use Rattle.connector.specs.Listened.{listened, bytesIn}
-use Rattle.links.specs.Sender.{threeBytes}
+use Rattle.sender.specs.Sender.{threeBytes}
 use Rattle.links.specs.Taken.{byWidth, transferTaken}
 use Rattle.connector.specs.Items.{Beside, Item, Way, above, bitsOf, wires, wireDeeds, syncAfter, SameButBit4, Alike}
 use Rattle.connector.specs.Connector.{Controller, Came, comes, rests, carriedAt, takenAt, runs, act, does, KeepsDl, Idles}

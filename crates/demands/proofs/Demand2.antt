@@ -19,7 +19,7 @@ use Rattle.picture.specs.Picture.{Seen}
 use Rattle.repaint.specs.Repaint.{repainted, countNamed, named}
 use Rattle.calls.specs.State.{State, state}
 use Rattle.calls.proofs.Kept.{admitted, reset-fresh}
-use Rattle.links.specs.Sender.{sent}
+use Rattle.sender.specs.Sender.{sent}
 use Rattle.picture.proofs.Accepted.{draws}
 use Rattle.calls.specs.Calls.{Called, unlessOther}
 use Rattle.demands.proofs.Agreement.{call-is-connected, sent-is-received, writes-are-received, links-agree}

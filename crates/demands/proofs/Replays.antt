@@ -16,7 +16,7 @@ use Rattle.links.specs.declared.Link.the-variants.{Parallel, Serial}
 use Rattle.events.specs.declared.Event.{Event}
 use Rattle.events.specs.declared.Event.the-variants.{Bit}
 use Rattle.links.specs.Taken.{takenBy}
-use Rattle.links.specs.Sender.{highestFirst}
+use Rattle.sender.specs.Sender.{highestFirst}
 use Rattle.picture.specs.Picture.{Seen}
 use Rattle.picture.specs.Refusals.{refusalOf}
 use Rattle.calls.specs.State.{State, freshState}

@@ -5,6 +5,7 @@ use mathlib.Core.List.{List}
 use mathlib.Core.Path.{_≡_, refl, ap, _∙_}
 use lib.ListN.{length}
 use lib.Dec.{eqb}
+use Rattle.base.specs.Bits.{bits7-4}
 use Rattle.base.proofs.Choice.{either}
 use Rattle.controller.specs.declared.Control.{Control}
 use Rattle.controller.specs.Memories.{Memories}
@@ -46,7 +47,7 @@ module _ (m : Memories) (c : Control) where
   half-reply Empty register value = refl
   half-reply (Upper was upper) register value =
       either (λ (x : Carried). replyOf x ≡ 0) (Bool·beq was register)
-      (ap halves.firstReply (write-reply register (halves.joined upper (halves.bits7-4 value))))
+      (ap halves.firstReply (write-reply register (halves.joined upper (bits7-4 value))))
       refl
   half-reply (Lower was lower) register value = refl
 

@@ -12,7 +12,7 @@ use borrow.Author.Tests.{eqb-true, eqb-false, ltb-true, ltb-false, leb-true, leb
 use Rattle.base.specs.Choice.{if_then_else_}
 use Rattle.base.proofs.Choice.{either-told, by-test}
 use Rattle.base.proofs.Tests.{or-neither, and-both, never}
-use Rattle.links.specs.Sender.{sent}
+use Rattle.sender.specs.Sender.{sent}
 use Rattle.picture.specs.Picture.{Seen}
 use Rattle.picture.specs.Refusals.{refusalOf}
 use Rattle.capture.specs.declared.Answer.{Answer}

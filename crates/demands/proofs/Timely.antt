@@ -16,7 +16,7 @@ use Rattle.links.specs.Taken.{takenBy}
 use Rattle.connector.specs.Items.{WholeWrite, Item, write, besideWires, Way, wholeBytes, halves, serial, bitsOf, writeEvents, onward, wires, Alike, none, writes, events}
 use Rattle.picture.specs.Picture.{Seen}
 use Rattle.repaint.specs.Repaint.{named}
-use Rattle.links.specs.Sender.{threeBytes}
+use Rattle.sender.specs.Sender.{threeBytes}
 use Rattle.calls.specs.State.{State}
 use Rattle.calls.specs.Calls.{refused, unlessOther, takenOn, reaching, timeless, Fits, called}
 use Rattle.calls.proofs.Kept.{admitted}

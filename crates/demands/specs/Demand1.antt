@@ -14,7 +14,7 @@ use Rattle.events.specs.declared.Event.{Event}
 use Rattle.events.specs.declared.Event.the-variants.{Transfer, Bit, SelectLow, Reset, Pass}
 use Rattle.links.specs.declared.Link.{Link}
 use Rattle.links.specs.declared.Link.the-variants.{Parallel, Serial}
-use Rattle.links.specs.Sender.{sent, leaving}
+use Rattle.sender.specs.Sender.{sent, leaving}
 use Rattle.picture.specs.Picture.{Seen}
 use Rattle.picture.specs.Refusals.{drawn, drawing}
 use Rattle.calls.specs.State.{State}

@@ -17,7 +17,7 @@ use Rattle.events.specs.declared.Transfer.the-variants.{Instruct, Write, Status
 use Rattle.serial.specs.declared.Receiver.{Receiver}
 use Rattle.links.specs.declared.Link.the-variants.{Serial}
 use Rattle.links.specs.Idle.{idle}
-use Rattle.links.specs.Sender.{threeBytes, leaving, sent}
+use Rattle.sender.specs.Sender.{threeBytes, leaving, sent}
 use Rattle.picture.specs.Picture.{Seen, pictured}
 use Rattle.picture.specs.Refusals.{drawing, drawn}
 use Rattle.controller.specs.State.{remade}

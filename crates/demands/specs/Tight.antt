@@ -7,8 +7,8 @@ use mathlib.Core.List.{List, []}
 use mathlib.Core.Path.{_≡_}
 use denote.Ref.{RefT}
 use Rattle.controller.specs.Memories.{Memories}
-use Rattle.links.specs.Sender as sender
-use Rattle.links.specs.Sender.{Sent, sent}
+use Rattle.sender.specs.Sender as sender
+use Rattle.sender.specs.Sender.{Sent, sent}
 use Rattle.picture.specs.Picture.{Seen}
 use Rattle.picture.specs.Refusals as refusals
 use Rattle.picture.specs.Refusals.{Drawn, drawn}

@@ -1,8 +1,8 @@
 -- Document 01, "Links": the parallel link with DL = 0, where half bytes are paired.
-use Prim.Native.Nat.{ℕ, _+_, _*_, _/_}
+use Prim.Native.Nat.{ℕ, _+_, _*_}
 use mathlib.Core.Bool.{Bool, true, false, Bool·beq}
 use Rattle.base.specs.Choice.{if_then_else_}
-use Rattle.base.specs.Bits.{bits3-0}
+use Rattle.base.specs.Bits.{bits7-4, bits3-0, raised}
 use Rattle.events.specs.declared.Transfer.{Transfer}
 use Rattle.events.specs.declared.Transfer.the-variants.{Instruct, Write, Status, Read}
 use Rattle.links.specs.declared.Pairing.{Pairing}
@@ -11,14 +11,6 @@ use Rattle.links.specs.declared.Link.the-variants.{Parallel}
 use Rattle.events.specs.declared.Deed.the-variants.{Nothing, Whole}
 use Rattle.links.specs.declared.Rest.the-variants.{Stays, Halved, Handed}
 use Rattle.links.specs.declared.Carried.{Carried}
-
--- the number that bits 7..4 make
-abbrev pub bits7-4 : ℕ → ℕ
-bits7-4 b = b / 16
-
--- a half byte on the wires: its four bits in 7..4, zeros below
-abbrev pub raised : ℕ → ℕ
-raised half = bits3-0 half * 16
 
 -- the byte of two halves
 abbrev pub joined : ℕ → ℕ → ℕ

@@ -1,4 +1,3 @@
 pub mod Halves
 pub mod Idle
-pub mod Sender
 pub mod Taken

@@ -6,7 +6,8 @@ use crate::Rest;
 use events::Deed;
 use events::Transfer;
 ghost use mathlib.Core.Path.{_≡_};
-ghost use Rattle.links.specs.Halves.{raised, joined, writing, reading, kept, acts, handsOver, writeHalf, readHalf, paired};
+ghost use Rattle.base.specs.Bits.{raised};
+ghost use Rattle.links.specs.Halves.{joined, writing, reading, kept, acts, handsOver, writeHalf, readHalf, paired};
 ghost use Rattle.links.specs.Halves.{firstReply, pairingAfter};
 
 // One half-byte transfer, after what is open. Of a write only bits 7..4 count.
@@ -147,7 +148,7 @@ fn joined(upper: u8, lower: u8) -> u8
 }
 
 // A half byte as it stands on the wires.
-pub(crate) fn raised(half: u8) -> u8
+fn raised(half: u8) -> u8
     ensures { λ r. ⌜ r ≡ raised half ⌝ }
 {
     half % 16 * 16

@@ -1,13 +1,11 @@
-// From the connector's wires to bytes with their register: half bytes are paired, serial bits are heard; and the sender of
-// the serial link. States go by value, no function asks anything of its caller, and every state has its next one. Numbers
-// are cut by `%` where a state could hold more bits than document 01 gives it, so that no sum or product can wrap.
+// From the connector's wires to bytes with their register: half bytes are paired, serial bits are heard. States go by value,
+// no function asks anything of its caller, and every state has its next one. Numbers are cut by `%` where a state could hold
+// more bits than document 01 gives it, so that no sum or product can wrap.
 mod halves;
-mod sender;
 mod taking;
 
 use events::Deed;
 use events::Transfer;
-pub use sender::send;
 use serial::Receiver;
 use serial::idle_receiver;
 pub use taking::reply;

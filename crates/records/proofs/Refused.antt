@@ -9,7 +9,7 @@ use lib.ListN.{length}
 use Rattle.base.proofs.Choice.{either, by-test}
 use Rattle.events.specs.declared.Event.{Event}
 use Rattle.events.specs.declared.Event.the-variants.{Bit}
-use Rattle.links.specs.Sender.{highestFirst}
+use Rattle.sender.specs.Sender.{highestFirst}
 use Rattle.picture.specs.Picture.{Seen}
 use Rattle.capture.specs.Kinds.{Kind, instructionWrite, dataWrite, statusRead, dataRead, eightBits, chipSelectLow, reset, timePasses, kindOf}
 use Rattle.calls.specs.State.{State}

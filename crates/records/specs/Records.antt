@@ -6,7 +6,7 @@ use Rattle.base.specs.Choice.{if_then_else_}
 use Rattle.events.specs.declared.Event.{Event}
 use Rattle.events.specs.declared.Event.the-variants.{Transfer, Bit, SelectLow, Reset, Pass}
 use Rattle.events.specs.declared.Transfer.the-variants.{Instruct, Write, Status, Read}
-use Rattle.links.specs.Sender.{highestFirst}
+use Rattle.sender.specs.Sender.{highestFirst}
 use Rattle.picture.specs.Picture.{Seen}
 use Rattle.capture.specs.Kinds.{Kind, instructionWrite, dataWrite, statusRead, dataRead, eightBits, chipSelectLow, reset, timePasses, kindOf}
 use Rattle.calls.specs.State.{State}

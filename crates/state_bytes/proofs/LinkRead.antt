@@ -8,6 +8,7 @@ use native.Mathlib.Omega.{arith}
 use lib.Dec.{eqb}
 use lib.ListN.{getD}
 use Rattle.base.specs.Choice.{if_then_else_}
+use Rattle.base.specs.Bits.{raised}
 use Rattle.links.specs.declared.Pairing.{Pairing}
 use Rattle.links.specs.declared.Pairing.the-variants.{Empty, Upper, Lower}
 use Rattle.serial.specs.declared.Header.{Header}
@@ -17,7 +18,6 @@ use Rattle.serial.specs.declared.Receiver.{Receiver}
 use Rattle.serial.specs.declared.Receiver.the-variants.{Inside, Outside}
 use Rattle.links.specs.declared.Link.{Link}
 use Rattle.links.specs.declared.Link.the-variants.{Parallel, Serial}
-use Rattle.links.specs.Halves.{raised}
 use Rattle.state_bytes.specs.Packed.{flag}
 use Rattle.state_bytes.specs.LinkPacked.{linkPacked}
 

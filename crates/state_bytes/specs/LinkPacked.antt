@@ -5,6 +5,7 @@ use Prim.Native.Nat.{ℕ}
 use mathlib.Core.Bool.{Bool, false}
 use mathlib.Core.List.{List, [], _∷_}
 use Rattle.base.specs.Choice.{if_then_else_}
+use Rattle.base.specs.Bits.{raised}
 use Rattle.links.specs.declared.Pairing.{Pairing}
 use Rattle.links.specs.declared.Pairing.the-variants.{Empty, Upper, Lower}
 use Rattle.serial.specs.declared.Header.{Header}
@@ -15,7 +16,6 @@ use Rattle.serial.specs.declared.Receiver.{Receiver}
 use Rattle.serial.specs.declared.Receiver.the-variants.{Inside, Outside}
 use Rattle.links.specs.declared.Link.{Link}
 use Rattle.links.specs.declared.Link.the-variants.{Parallel, Serial}
-use Rattle.links.specs.Halves.{raised}
 use Rattle.state_bytes.specs.Packed.{flagByte}
 
 -- on the parallel link

@@ -46,7 +46,7 @@ fn damaged_wires() {
 // A write as the sender puts it into a buffer.
 fn sent(register: bool, byte: u8) {
     let mut buffer = [0u8; 3];
-    links::send(register, byte, &mut buffer);
+    sender::send(register, byte, &mut buffer);
     wire(&buffer);
 }
 

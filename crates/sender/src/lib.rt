@@ -1,7 +1,6 @@
 // The sender of the serial link: three bytes for a write.
-use crate::halves::raised;
 ghost use mathlib.Core.Path.{_≡_};
-ghost use Rattle.links.specs.Sender.{headerByte, threeBytes, leaving, sent};
+ghost use Rattle.sender.specs.Sender.{headerByte, threeBytes, leaving, sent};
 
 // Puts the bytes that carry a write to a register into the first three of the buffer, and answers 0; or refuses a shorter
 // buffer with 4 and leaves it alone.
@@ -22,7 +21,7 @@ pub fn send(register: bool, byte: u8, buffer: &mut [u8]) -> u8
 fn three_bytes(register: bool, byte: u8) -> [u8; 3]
     ensures { λ r. ⌜ r ≡ threeBytes register byte ⌝ }
 {
-    [header_byte(register), raised(byte / 16), raised(byte % 16)]
+    [header_byte(register), byte / 16 * 16, byte % 16 * 16]
 }
 
 fn header_byte(register: bool) -> u8

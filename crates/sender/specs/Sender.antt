@@ -5,8 +5,7 @@ use mathlib.Core.List.{List, [], _∷_, _++_}
 use lib.Dec.{ltb}
 use lib.ListN.{length, drop}
 use Rattle.base.specs.Choice.{if_then_else_}
-use Rattle.base.specs.Bits.{bit, bits3-0}
-use Rattle.links.specs.Halves.{bits7-4, raised}
+use Rattle.base.specs.Bits.{bit, bits7-4, bits3-0, raised}
 
 -- F8h (instruction) or FAh (data)
 abbrev pub headerByte : Bool → ℕ

@@ -5,10 +5,10 @@ use borrow.Author.Tests.{lt-ltb, le-ltb}
 use lib.ListN.{length-set, getD}
 use mathlib.Core.List.{List}
 use native.Mathlib.Omega.{arith}
-use Rattle.links.specs.Sender.{sent}
-use Rattle.links.proofs.Buffer.{set-first-three}
-use Rattle.links.proofs.sender.send.Statement.{statement}
-use Rattle.links.proofs.sender.send.Tie as tie
+use Rattle.sender.specs.Sender.{sent}
+use Rattle.sender.proofs.Buffer.{set-first-three}
+use Rattle.sender.proofs.send.Statement.{statement}
+use Rattle.sender.proofs.send.Tie as tie
 
 pub send-spec : {M : Type 1} → statement M
 unfolding sent
