@@ -2,7 +2,7 @@
 use crate::Control;
 use crate::Place;
 use crate::Waiting;
-use crate::instructions::stepped;
+use crate::controls::stepped;
 use crate::places::graphic_place;
 use crate::places::word_place;
 use table::Target;
@@ -144,7 +144,7 @@ impl Control {
         let mut next = self;
         next.place = moved;
         if self.shifts() {
-            return next.with_view(view.display_moved(!id));
+            next.view = view.display_moved(!id);
         }
         next
     }
@@ -154,10 +154,17 @@ impl Control {
         ensures { λ r. ⌜ r ≡ dummyRead self ⌝ }
     {
         let place = self.place;
-        let dropped = place.with_waiting(Waiting::Nothing);
+        let target = place.target;
+        let read = Place {
+            target,
+            counter: place.counter,
+            row: place.row,
+            low: place.low,
+            dummy: false,
+            waiting: Waiting::Nothing,
+        };
         let mut next = self;
-        next.place = dropped;
-        next.place.dummy = false;
+        next.place = read;
         next
     }
 }

@@ -1,9 +1,10 @@
-// The controller: all of the panel's state but the link, after document 01's "Memories and flags", and what the transfers do to it.
+// The controller: all of the panel's state but the link, after document 01's "Memories and flags", and what data transfers do to it.
+// The definitions of what instructions do stand here too; the code that does it is the crate `instructions`.
 // The three memories are arrays that the caller lends; everything else is `Control`, which goes in and comes back by value.
 use table::Target;
 
+pub mod controls;
 pub mod data;
-mod instructions;
 pub mod named;
 pub mod places;
 

@@ -9,6 +9,7 @@ use controller::named::write_names;
 use events::Deed;
 use events::Made;
 use events::Transfer;
+use instructions::obey;
 use table::Touch;
 use time::busy_bit;
 use time::charged;
@@ -53,7 +54,7 @@ fn execute(text: &mut [u8; 128], control: Control, byte: u8) -> Done
     let instruction = table::decode(control.modes(), byte);
     let touch = table::touches(instruction);
     clear(text, touch);
-    let next = control.obey(instruction);
+    let next = obey(control, instruction);
     let region = instruction_names(control, next, touch);
     Done {
         control: next,

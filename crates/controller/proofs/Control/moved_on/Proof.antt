@@ -12,6 +12,5 @@ moved-on-spec =
     (λ c κs. search needs)
     (λ c κs. search needs)
     (λ c κs. search needs)
-    (λ c κs. search needs)
-    (λ c. rw (c .with-view .ensures, c .before .display-moved .ensures, c .before .before .before .before .moved .ensures, ← c .before .before .before .shifts .ensures, c .before .before .if1 .taken))
+    (λ c. rw (c .display-moved .ensures, c .before .before .before .moved .ensures, ← c .before .before .shifts .ensures, c .before .if1 .taken))
     (λ c. rw (c .before .before .moved .ensures, ← c .before .shifts .ensures, c .if1 .left)))

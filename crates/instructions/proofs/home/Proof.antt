@@ -1,7 +1,7 @@
 -- The place that `pointed` gives goes in.
 use borrow.Author.Needs.{needs}
-use Rattle.controller.proofs.Control.home.Statement.{statement}
-use Rattle.controller.proofs.Control.home.Tie as tie
+use Rattle.instructions.proofs.home.Statement.{statement}
+use Rattle.instructions.proofs.home.Tie as tie
 
 pub home-spec : {M : Type 1} → statement M
 home-spec =

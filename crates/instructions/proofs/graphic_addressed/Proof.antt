@@ -1,7 +1,7 @@
 -- By whether a row waits.
 use borrow.Author.Needs.{needs}
-use Rattle.controller.proofs.Place.graphic_addressed.Statement.{statement}
-use Rattle.controller.proofs.Place.graphic_addressed.Tie as tie
+use Rattle.instructions.proofs.graphic_addressed.Statement.{statement}
+use Rattle.instructions.proofs.graphic_addressed.Tie as tie
 
 pub graphic-addressed-spec : {M : Type 1} → statement M
 graphic-addressed-spec =

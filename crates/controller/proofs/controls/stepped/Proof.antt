@@ -1,7 +1,7 @@
 -- By the direction.
 use borrow.Author.Needs.{needs}
-use Rattle.controller.proofs.instructions.stepped.Statement.{statement}
-use Rattle.controller.proofs.instructions.stepped.Tie as tie
+use Rattle.controller.proofs.controls.stepped.Statement.{statement}
+use Rattle.controller.proofs.controls.stepped.Tie as tie
 
 pub stepped-spec : {M : Type 1} → statement M
 stepped-spec =

@@ -1,9 +1,9 @@
 -- By RE as it is and as it is to be.
-use Rattle.controller.proofs.Function.set.Statement.{statement}
-use Rattle.controller.proofs.Function.set.Tie as tie
+use Rattle.instructions.proofs.set_function.Statement.{statement}
+use Rattle.instructions.proofs.set_function.Tie as tie
 
-pub set-spec : {M : Type 1} → statement M
-set-spec =
+pub set-function-spec : {M : Type 1} → statement M
+set-function-spec =
     tie.close
     (tie.spec
     (λ c. rw (c .before .if1 .taken, c .if2 .taken))
