@@ -15,8 +15,7 @@ use Rattle.base.proofs.Choice.{either}
 use Rattle.capture.specs.declared.Answer.{Answer}
 use Rattle.capture.specs.declared.Answer.the-variants.{Record, Refused, End}
 use Rattle.capture.specs.Kinds.{known, kindOf, allowed}
-use Rattle.capture.specs.Record.{marked, kindByte, valueByte, readFirst, number, values}
-use Rattle.capture.specs.Capture.{passed}
+use Rattle.capture.specs.Record.{marked, kindByte, valueByte, readFirst, number, values, passed}
 use Rattle.capture.proofs.Answer.{the-type}
 
 pub nothing-left : (c : List ℕ) → length c ≡ 0 → readFirst c ≡ End

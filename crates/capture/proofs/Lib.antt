@@ -1,11 +1,3 @@
 pub mod ByKind
 pub mod Answers
 pub mod Taken
-pub mod Contents
-mod Held
-mod Called
-mod Stated
-mod Parts
-mod Method
-mod Asked
-mod Answered

@@ -16,8 +16,7 @@ use Rattle.base.proofs.Choice.{either, either-told, by-test}
 use Rattle.capture.specs.declared.Answer.{Answer}
 use Rattle.capture.specs.declared.Answer.the-variants.{Record, Refused, End}
 use Rattle.capture.specs.Kinds.{lastKind, kindOf, allowed}
-use Rattle.capture.specs.Record.{marked, kindByte, valueByte, readFirst, values}
-use Rattle.capture.specs.Capture.{passed, takenWith}
+use Rattle.capture.specs.Record.{marked, kindByte, valueByte, readFirst, values, passed, takenWith}
 use Rattle.capture.proofs.Answers.{judged, four-left, four-are-no-end, Numbered, read-numbered}
 use Rattle.capture.proofs.Answer.{the-type}
 

@@ -41,3 +41,15 @@ abbrev pub values : Answer → List ℕ
 values (Record kind value) = kind ∷ value ∷ []
 values (Refused n) = []
 values End = []
+
+-- how many bytes are passed: a record's four, or none
+abbrev pub passed : Answer → ℕ
+passed (Record kind value) = 4
+passed (Refused n) = 0
+passed End = 0
+
+-- request K1: what an answer is to a panel with or without time; without time kind 7 is still refused with 8
+abbrev pub takenWith : Bool → Answer → Answer
+takenWith time (Record kind value) = if not time && eqb kind 7 then Refused 8 else Record kind value
+takenWith time (Refused n) = Refused n
+takenWith time End = End

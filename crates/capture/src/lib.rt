@@ -1,10 +1,7 @@
-// Captures: the record at the beginning of a capture or at a position of it, and a reader that holds the capture it was lent.
+// Captures: the record at the beginning of a capture, or of a part of one, and what an answer is to a panel.
 ghost use mathlib.Core.Path.{_≡_};
 ghost use Rattle.capture.specs.Kinds.{known, kindOf, allowed};
-ghost use Rattle.capture.specs.Record.{marked, readFirst, number};
-ghost use Rattle.capture.specs.Part.{lent};
-ghost use Rattle.capture.specs.Capture.{passed, takenWith, partFrom, stepAt};
-ghost use Rattle.capture.specs.Reader.{over, readerStep};
+ghost use Rattle.capture.specs.Record.{marked, readFirst, number, takenWith};
 
 // What stands in a capture: a record with its two numbers, or why there is none: a refusal, by its number, or the capture's end.
 pub enum Answer {
@@ -36,17 +33,6 @@ impl Answer {
             return Answer::Refused(8);
         }
         self
-    }
-
-    // How many bytes of the capture it takes to move on.
-    fn passed(self) -> usize
-        ensures { λ r. ⌜ r ≡ passed self ⌝ }
-    {
-        match self {
-            Answer::Record { kind: _, value: _ } => 4,
-            Answer::Refused(_) => 0,
-            Answer::End => 0,
-        }
     }
 }
 
@@ -98,63 +84,4 @@ pub fn read(capture: &[u8]) -> Answer
         return Answer::Refused(9);
     }
     Answer::Record { kind, value }
-}
-
-// The caller's own capture from a position on; a position past the end is the end.
-fn part_from(capture: &[u8], at: usize) -> &[u8]
-    ensures { λ r. ⌜ lent r ≡ partFrom (capture .entry) at ⌝ }
-{
-    let end = capture.len();
-    if end < at {
-        return &capture[end..];
-    }
-    &capture[at..]
-}
-
-// What stands at a position, and the position behind it: a record's four bytes further on, or the same where there is none.
-pub struct Step {
-    pub answer: Answer,
-    pub next: usize,
-}
-
-// `read` is given the part that begins at the position.
-fn step_at(capture: &[u8], at: usize) -> Step
-    ensures { λ r. ⌜ r ≡ stepAt (now (capture .entry)) at ⌝ }
-{
-    let answer = read(part_from(capture, at));
-    Step {
-        answer,
-        next: at + answer.passed(),
-    }
-}
-
-// A reader holds the capture that it was lent, and a position in it. Its step only takes it apart for a function on
-// the slice and the number, since it is proved by hand.
-pub struct Reader<'a> {
-    capture: &'a [u8],
-    at: usize,
-}
-
-impl<'a> Reader<'a> {
-    // A reader over a capture, at a position of it.
-    pub fn over(capture: &'a [u8], at: usize) -> Reader<'a>
-        ensures { λ r. ⌜ r ≡ over (capture .entry) at ⌝ }
-    {
-        Reader { capture, at }
-    }
-
-    // What stands at the reader's position, and where it reads next.
-    pub fn step(self) -> Step
-        ensures { λ r. ⌜ r ≡ readerStep (self .entry) ⌝ }
-    {
-        step_at(self.capture, self.at)
-    }
-}
-
-// One step of a reader over a capture, at a position of it. Whoever calls this has a plain slice and a number, and needs no
-// proof by hand.
-pub fn record_at(capture: &[u8], at: usize) -> Step
-    ensures { λ r. ⌜ r ≡ stepAt (now (capture .entry)) at ⌝ }
-{
-    Reader::over(capture, at).step()
 }

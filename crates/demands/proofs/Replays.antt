@@ -28,7 +28,7 @@ use Rattle.printed.specs.Text.{RecordAnswer, recordAnswer, line, lines, longest
 use Rattle.demands.proofs.Sequences.{after-append, numbers-append, zeros-append}
 use Rattle.capture.specs.Kinds.{Kind, lastKind, kindOf}
 use Rattle.capture.specs.Record.{number}
-use Rattle.capture.specs.Capture.{Recorded}
+use Rattle.reader.specs.Capture.{Recorded}
 use Rattle.capture.proofs.ByKind.{by-kind}
 use Rattle.records.specs.Records.{asks, calledOn, firstNumber, calledInTurn, recordCalled}
 use Rattle.playback.specs.Replay.{Replayed, halted, afterAnswers, Room, endless, bytes, roomFor, roomBehind, recordsReplayed, readBy, replayed}

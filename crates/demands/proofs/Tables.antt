@@ -20,7 +20,8 @@ use Rattle.capture.specs.Kinds.{lastKind, kindOf}
 use Rattle.capture.specs.Kinds as kinds
 use Rattle.capture.specs.Record as records
 use Rattle.capture.specs.declared.Answer.the-variants.{Record, Refused, End}
-use Rattle.capture.specs.Capture.{Recorded, takenWith, readOn, contents}
+use Rattle.capture.specs.Record.{takenWith}
+use Rattle.reader.specs.Capture.{Recorded, readOn, contents}
 use Rattle.capture.proofs.Answers.{nothing-left, one-to-three-left}
 use Rattle.capture.proofs.ByKind.{by-kind}
 use Rattle.capture.proofs.Taken.{judgedWith, taken-four-left}

@@ -3,7 +3,7 @@ use Prim.Native.Nat.{ℕ, _+_}
 use mathlib.Core.List.{List, [], _∷_, map, flatten}
 use Rattle.events.specs.declared.Event.{Event}
 use Rattle.capture.specs.Kinds.{kindOf}
-use Rattle.capture.specs.Capture.{Recorded}
+use Rattle.reader.specs.Capture.{Recorded}
 use Rattle.picture.specs.Picture.{Seen}
 use Rattle.calls.specs.State.{State}
 use Rattle.calls.specs.Calls.{Called, afterCalls}

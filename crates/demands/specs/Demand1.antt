@@ -23,8 +23,8 @@ use Rattle.demands.specs.Wires.{numbersOf}
 use Rattle.capture.specs.declared.Answer.{Answer}
 use Rattle.capture.specs.declared.Answer.the-variants.{Record, Refused, End}
 use Rattle.capture.specs.Kinds.{lastKind}
-use Rattle.capture.specs.Record.{kindByte, valueByte, readFirst, number}
-use Rattle.capture.specs.Capture.{Recorded, takenWith}
+use Rattle.capture.specs.Record.{kindByte, valueByte, readFirst, number, takenWith}
+use Rattle.reader.specs.Capture.{Recorded}
 use Rattle.printed.specs.Text.{RecordAnswer, lines, longestLine}
 use Rattle.playback.specs.Replay.{Replayed, halted, Room, endless, bytes, readBy, replayed}
 use Rattle.playback.specs.Transcript.{told, transcribed}

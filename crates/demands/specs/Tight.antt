@@ -21,11 +21,11 @@ use Rattle.panel.specs.declared.Panel.{Panel}
 use Rattle.panel.specs.declared.Outcome as panel
 use Rattle.panel.specs.Handed.{stateOf, memoriesOf, handed}
 use Rattle.capture.specs.declared.Answer.{Answer}
-use Rattle.capture.specs.declared.Reader.{Reader}
-use Rattle.capture.specs.Record.{readFirst, number}
-use Rattle.capture.specs.declared.Step.{Step}
-use Rattle.capture.specs.Capture.{stepAt, takenWith}
-use Rattle.capture.specs.Reader as reader
+use Rattle.reader.specs.declared.Reader.{Reader}
+use Rattle.capture.specs.Record.{readFirst, number, takenWith}
+use Rattle.reader.specs.declared.Step.{Step}
+use Rattle.reader.specs.Capture.{stepAt}
+use Rattle.reader.specs.Reader as reader
 use Rattle.playback.specs.declared.Stop.{Stop}
 use Rattle.printed.specs.Text as lines
 use Rattle.playback.specs.Transcript.{Told, replayedSilently, transcribed, leftBy}

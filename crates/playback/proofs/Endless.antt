@@ -10,7 +10,7 @@ use Rattle.picture.specs.Picture.{Seen}
 use Rattle.picture.specs.Refusals.{refusalOf}
 use Rattle.calls.specs.State.{State}
 use Rattle.capture.specs.Record.{number}
-use Rattle.capture.specs.Capture.{Recorded}
+use Rattle.reader.specs.Capture.{Recorded}
 use Rattle.records.specs.Records.{recordCalled}
 use Rattle.playback.specs.Replay.{Replayed, endless, recordsReplayed, readBy, replayed}
 

@@ -18,10 +18,10 @@ use Rattle.calls.specs.State.{State, Valid}
 use Rattle.calls.specs.Calls.{Called}
 use Rattle.capture.specs.declared.Answer.{Answer}
 use Rattle.capture.specs.declared.Answer.the-variants.{Record}
-use Rattle.capture.specs.Record.{number}
-use Rattle.capture.specs.Capture.{Contents, readAt, passed, takenWith}
+use Rattle.capture.specs.Record.{number, passed, takenWith}
+use Rattle.reader.specs.Capture.{Contents, readAt}
 use Rattle.capture.proofs.Answers.{record-within}
-use Rattle.capture.proofs.Contents.{contents-at-record, contents-at-stop}
+use Rattle.reader.proofs.Contents.{contents-at-record, contents-at-stop}
 use Rattle.capture.proofs.Taken.{taken-record}
 use Rattle.printed.specs.Text.{RecordAnswer, recordAnswer, line, lines, Put, Counts, longestLine, hasRoom}
 use Rattle.printed.proofs.Writing.{put-length, line-length, count-digits}

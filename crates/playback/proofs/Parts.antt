@@ -17,8 +17,8 @@ use Rattle.calls.specs.Calls.{Called}
 use Rattle.capture.specs.declared.Answer.{Answer}
 use Rattle.capture.specs.declared.Answer.the-variants.{Record, Refused, End}
 use Rattle.capture.specs.Record.{number}
-use Rattle.capture.specs.Capture.{Recorded, Contents}
-use Rattle.capture.proofs.Contents.{joinedAt, contents-of-parts, Stops, contents-stop}
+use Rattle.reader.specs.Capture.{Recorded, Contents}
+use Rattle.reader.proofs.Contents.{joinedAt, contents-of-parts, Stops, contents-stop}
 use Rattle.records.specs.Records.{recordCalled}
 use Rattle.printed.specs.Text.{RecordAnswer, line, lines}
 use Rattle.playback.specs.Replay.{Ending, Replayed, Room, endless, bytes, roomFor, roomBehind, ended, halted, afterAnswers, recordsReplayed, readBy, replayed}

@@ -13,7 +13,7 @@ use Rattle.picture.specs.Refusals.{refusalOf}
 use Rattle.calls.specs.State.{State}
 use Rattle.calls.specs.Calls.{Called}
 use Rattle.capture.specs.Record.{number}
-use Rattle.capture.specs.Capture.{Recorded}
+use Rattle.reader.specs.Capture.{Recorded}
 use Rattle.printed.specs.Text.{RecordAnswer, line, longestLine, hasRoom}
 use Rattle.printed.proofs.Writing.{decimal-length, line-length, count-digits}
 use Rattle.records.specs.Records.{recordCalled}

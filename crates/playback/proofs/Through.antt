@@ -14,8 +14,8 @@ use Rattle.calls.specs.State.{State}
 use Rattle.calls.specs.Calls.{Called}
 use Rattle.capture.specs.declared.Answer.{Answer}
 use Rattle.capture.specs.declared.Answer.the-variants.{Record, Refused, End}
-use Rattle.capture.specs.Record.{readFirst, number}
-use Rattle.capture.specs.Capture.{Recorded, Contents, takenWith, readOn, contents}
+use Rattle.capture.specs.Record.{readFirst, number, takenWith}
+use Rattle.reader.specs.Capture.{Recorded, Contents, readOn, contents}
 use Rattle.capture.proofs.Answers.{Numbered}
 use Rattle.capture.proofs.Taken.{four-taken-no-end, taken-numbered}
 use Rattle.records.specs.Records.{recordCalled}

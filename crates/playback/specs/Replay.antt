@@ -10,7 +10,7 @@ use Rattle.picture.specs.Refusals.{lentRefusal}
 use Rattle.calls.specs.State.{State}
 use Rattle.calls.specs.Calls.{Called}
 use Rattle.capture.specs.Record.{number}
-use Rattle.capture.specs.Capture.{Recorded, Contents, contents}
+use Rattle.reader.specs.Capture.{Recorded, Contents, contents}
 use Rattle.printed.specs.Text.{RecordAnswer, recordAnswer, line, hasRoom}
 use Rattle.records.specs.Records.{recordCalled}
 

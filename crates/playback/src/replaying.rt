@@ -61,7 +61,7 @@ fn run(
     let mut filled: usize = 0;
     let mut at: usize = 0;
     let halt = loop {
-        let step = capture::record_at(capture, at);
+        let step = reader::record_at(capture, at);
         let stands = step.answer;
         let answer = stands.taken_with(next.control.time.timed);
         let Answer::Record { kind, value } = answer else {

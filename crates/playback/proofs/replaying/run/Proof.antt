@@ -7,9 +7,8 @@ use native.Mathlib.Omega.{arith}
 use lib.ListN.{length}
 use Rattle.panel.specs.Handed.{stateOf}
 use Rattle.capture.specs.declared.Answer.the-variants.{Record}
-use Rattle.capture.specs.declared.Step.{Step}
-use Rattle.capture.specs.Record.{number}
-use Rattle.capture.specs.Capture.{passed, takenWith}
+use Rattle.reader.specs.declared.Step.{Step}
+use Rattle.capture.specs.Record.{number, passed, takenWith}
 use Rattle.capture.proofs.Answers.{no-record-in-else}
 use Rattle.playback.proofs.Going.{takenAt, Going, turned-away, begins, long, further, sized, tells-so-far, stops, is-full, room-for-line, countable, turns, refuses}
 use Rattle.playback.proofs.replaying.run.Statement.{statement}

@@ -2,8 +2,8 @@
 use borrow.Author.Needs.{needs}
 use borrow.Rule.Slice.PartAt.{part-to-end}
 use native.Mathlib.Nat.{min-eq-left, min-eq-right, le-of-lt}
-use Rattle.capture.proofs.part_from.Statement.{statement}
-use Rattle.capture.proofs.part_from.Tie as tie
+use Rattle.reader.proofs.part_from.Statement.{statement}
+use Rattle.reader.proofs.part_from.Tie as tie
 
 pub part-from-spec : {M : Type 1} → statement M
 part-from-spec =

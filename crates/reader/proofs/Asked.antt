@@ -16,12 +16,12 @@ use denote.Builtin.{u8, usize}
 use denote.Slice.{ShrSlice}
 use denote.Triple.Statement.{Triple}
 use denote.Triple.Entry.{alive}
-use Rattle.capture.specs.declared.Reader.{Reader}
-use Rattle.capture.proofs.Held.{Typed, sliceAndNumber, Whole, apart}
-use Rattle.capture.proofs.Called.{calls-told}
-use Rattle.capture.proofs.Parts as parts
-use Rattle.capture.proofs.Parts.{Claim, OnParts}
-use Rattle.capture.proofs.Method as method
+use Rattle.reader.specs.declared.Reader.{Reader}
+use Rattle.reader.proofs.Held.{Typed, sliceAndNumber, Whole, apart}
+use Rattle.reader.proofs.Called.{calls-told}
+use Rattle.reader.proofs.Parts as parts
+use Rattle.reader.proofs.Parts.{Claim, OnParts}
+use Rattle.reader.proofs.Method as method
 
 module _ {M : Type 1} {𝓤 : URA M} {H : Heap 𝓤} {A : Atoms 𝓤} {K : Type 0} {W : Given 𝓤 H A} {Γ : List (Item 𝓤)} {E : Env 𝓤 H} {C : Calls 𝓤 H} {Λ : Loops 𝓤 H} {end : Post 𝓤 H} {g : Name} {xs : List Opd} {p : Place} {rest : Body} where
   pub asks : K → FmC 𝓤 H (W .laws) C → (F : Lft → RattleType) (told : Claim F) → Triple 𝓤 (C g) (OnParts F told 𝓤 H A) → (κ : Lft) (q : Share) (d : Reader) → Typed d

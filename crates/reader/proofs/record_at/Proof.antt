@@ -25,27 +25,27 @@ use denote.Struct.Laws as LL
 use denote.Triple.Statement.{Triple}
 use denote.Triple.Table.{cited}
 use denote.Triple.Walked.{says, ends-at}
-use Rattle.capture.specs.Reader.{readerStep}
-use Rattle.capture.specs.declared.Reader.{Reader}
-use Rattle.capture.specs.declared.Step.{Step}
-use Rattle.capture.proofs.Reader as T
-use Rattle.capture.proofs.Reader.Laws as T′
-use Rattle.capture.proofs.Step as S
-use Rattle.capture.proofs.Step.Laws as S′
-use Rattle.capture.proofs.Held.{ReaderOf, sliceAndNumber}
-use Rattle.capture.proofs.Called.{calls-told}
-use Rattle.capture.proofs.Parts as parts
-use Rattle.capture.proofs.Parts.{Claim, OnParts, Pre, Post, parts-stated}
-use Rattle.capture.proofs.Method as method
-use Rattle.capture.proofs.Method.{OnReader}
-use Rattle.capture.proofs.Reader.over.Symbol as over
-use Rattle.capture.proofs.Reader.over.Met as over-thm
-use Rattle.capture.proofs.Reader.step.Symbol as step
-use Rattle.capture.proofs.Reader.step.Met as step-thm
-use Rattle.capture.proofs.record_at as at
-use Rattle.capture.proofs.record_at.Key as key
-use Rattle.capture.proofs.record_at.Statement as stated
-use Rattle.capture.proofs.record_at.Code as code
+use Rattle.reader.specs.Reader.{readerStep}
+use Rattle.reader.specs.declared.Reader.{Reader}
+use Rattle.reader.specs.declared.Step.{Step}
+use Rattle.reader.proofs.Reader as T
+use Rattle.reader.proofs.Reader.Laws as T′
+use Rattle.reader.proofs.Step as S
+use Rattle.reader.proofs.Step.Laws as S′
+use Rattle.reader.proofs.Held.{ReaderOf, sliceAndNumber}
+use Rattle.reader.proofs.Called.{calls-told}
+use Rattle.reader.proofs.Parts as parts
+use Rattle.reader.proofs.Parts.{Claim, OnParts, Pre, Post, parts-stated}
+use Rattle.reader.proofs.Method as method
+use Rattle.reader.proofs.Method.{OnReader}
+use Rattle.reader.proofs.Reader.over.Symbol as over
+use Rattle.reader.proofs.Reader.over.Met as over-thm
+use Rattle.reader.proofs.Reader.step.Symbol as step
+use Rattle.reader.proofs.Reader.step.Met as step-thm
+use Rattle.reader.proofs.record_at as at
+use Rattle.reader.proofs.record_at.Key as key
+use Rattle.reader.proofs.record_at.Statement as stated
+use Rattle.reader.proofs.record_at.Code as code
 
 -- what `over` makes
 abbrev Made : Lft → RattleType
@@ -110,5 +110,5 @@ record-at-spec 𝓤 H 𝓜 𝓖 𝓡 =
     parts-stated Read claim 𝓤 H 𝓜 𝓖 𝓡 (λ κs a. at.clauses 𝓤 H (𝓖 .A) (𝓜 .mem) (𝓡 .run) κs a .ensures) (λ κs a g r e. id⊢ 𝓤 _)
     code.function code.env key.name (code.unfolded 𝓤 H 𝓜 𝓡)
     (λ fm κ q d is fits. walk 𝓤 H (𝓖 .A) (givenOf 𝓤 H 𝓜 𝓖) κ q d fits (tables 𝓤 H 𝓜 𝓡 code.env .C) (tables 𝓤 H 𝓜 𝓡 code.env .Λ) fm
-    (cited 𝓤 H (OnParts Made made 𝓤 H (𝓖 .A)) 𝓜 𝓡 code.env over.name over.routine code.calls-capture·Reader·over (over-thm.met 𝓤 H 𝓜 𝓖 𝓡))
-    (cited 𝓤 H (OnReader Read claim 𝓤 H (𝓖 .A)) 𝓜 𝓡 code.env step.name step.routine code.calls-capture·Reader·step (step-thm.met 𝓤 H 𝓜 𝓖 𝓡)) is)
+    (cited 𝓤 H (OnParts Made made 𝓤 H (𝓖 .A)) 𝓜 𝓡 code.env over.name over.routine code.calls-reader·Reader·over (over-thm.met 𝓤 H 𝓜 𝓖 𝓡))
+    (cited 𝓤 H (OnReader Read claim 𝓤 H (𝓖 .A)) 𝓜 𝓡 code.env step.name step.routine code.calls-reader·Reader·step (step-thm.met 𝓤 H 𝓜 𝓖 𝓡)) is)

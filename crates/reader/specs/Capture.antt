@@ -1,22 +1,14 @@
 -- Document 01, "Captures": the records of a capture, one after another, and what each leaves of it.
 use Prim.Native.Nat.{ℕ, _+_, min}
-use mathlib.Core.Bool.{Bool, not, _&&_}
+use mathlib.Core.Bool.{Bool}
 use mathlib.Core.List.{List, [], _∷_}
-use lib.Dec.{eqb}
 use lib.ListN.{length, drop}
 use denote.Ref.{RefT, now}
-use Rattle.base.specs.Choice.{if_then_else_}
 use Rattle.capture.specs.declared.Answer.{Answer}
 use Rattle.capture.specs.declared.Answer.the-variants.{Record, Refused, End}
-use Rattle.capture.specs.declared.Step.{Step}
-use Rattle.capture.specs.Record.{readFirst}
-use Rattle.capture.specs.Part.{Part, from}
-
--- how many bytes are passed: a record's four, or none
-abbrev pub passed : Answer → ℕ
-passed (Record kind value) = 4
-passed (Refused n) = 0
-passed End = 0
+use Rattle.reader.specs.declared.Step.{Step}
+use Rattle.capture.specs.Record.{readFirst, passed, takenWith}
+use Rattle.reader.specs.Part.{Part, from}
 
 -- the caller's own capture from a position on: each record read leaves the rest of it, beginning after the record
 -- (a position past the end is the end)
@@ -30,12 +22,6 @@ readAt c at = readFirst (drop at c)
 -- what stands at a position, and the position from which the rest is read: after the record, or the same where there is none
 abbrev pub stepAt : List ℕ → ℕ → Step
 stepAt c at = record { answer = readAt c at; next = at + passed (readAt c at) }
-
--- request K1: what an answer is to a panel with or without time; without time kind 7 is still refused with 8
-abbrev pub takenWith : Bool → Answer → Answer
-takenWith time (Record kind value) = if not time && eqb kind 7 then Refused 8 else Record kind value
-takenWith time (Refused n) = Refused n
-takenWith time End = End
 
 -- a record's two numbers
 pub record Recorded : Type 0 where

@@ -23,14 +23,14 @@ use denote.Steps.{nothing}
 use denote.Triple.Statement.{Triple}
 use denote.Triple.Table.{cited}
 use denote.Triple.Walked.{says, ends-at}
-use Rattle.capture.specs.declared.Reader.{Reader}
-use Rattle.capture.proofs.Reader.Laws as T′
-use Rattle.capture.proofs.Held.{Typed, Whole}
-use Rattle.capture.proofs.Stated.{Ensures, Gives, Own}
-use Rattle.capture.proofs.Parts.{Claim, OnParts}
-use Rattle.capture.proofs.Method as method
-use Rattle.capture.proofs.Method.{Pre, Post, method-stated}
-use Rattle.capture.proofs.Asked.{asks}
+use Rattle.reader.specs.declared.Reader.{Reader}
+use Rattle.reader.proofs.Reader.Laws as T′
+use Rattle.reader.proofs.Held.{Typed, Whole}
+use Rattle.reader.proofs.Stated.{Ensures, Gives, Own}
+use Rattle.reader.proofs.Parts.{Claim, OnParts}
+use Rattle.reader.proofs.Method as method
+use Rattle.reader.proofs.Method.{Pre, Post, method-stated}
+use Rattle.reader.proofs.Asked.{asks}
 
 -- the method's code: τ is the type of its result's local
 abbrev pub answering : Ty → Name → Fn

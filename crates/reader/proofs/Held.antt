@@ -24,9 +24,9 @@ use denote.Struct.Declared.{Declared}
 use denote.Struct.Laws as LL
 use denote.Struct.Rest.{all-own, ownAt, rest, own-open, own-out}
 use denote.Struct.Values.{Values}
-use Rattle.capture.specs.declared.Reader.{Reader}
-use Rattle.capture.proofs.Reader as T
-use Rattle.capture.proofs.Reader.Laws as T′
+use Rattle.reader.specs.declared.Reader.{Reader}
+use Rattle.reader.proofs.Reader as T
+use Rattle.reader.proofs.Reader.Laws as T′
 
 -- a signature's one lifetime
 abbrev lifetime : Lfts 1 → NamedLft

@@ -2,9 +2,9 @@
 use Prim.Native.Nat.{ℕ}
 use mathlib.Core.List.{List}
 use denote.Ref.{RefT, now}
-use Rattle.capture.specs.declared.Reader.{Reader}
-use Rattle.capture.specs.declared.Step.{Step}
-use Rattle.capture.specs.Capture.{stepAt}
+use Rattle.reader.specs.declared.Reader.{Reader}
+use Rattle.reader.specs.declared.Step.{Step}
+use Rattle.reader.specs.Capture.{stepAt}
 
 -- a reader over a capture, at a position of it
 abbrev pub over : RefT (List ℕ) → ℕ → Reader

@@ -23,16 +23,16 @@ use denote.Slice.{ShrSlice, shr-slice-lawful, shr-slice-copy}
 use denote.Steps.{nothing, owned}
 use denote.Struct.Rest.{own-shut}
 use denote.Triple.Walked.{says, ends-at}
-use Rattle.capture.specs.declared.Reader.{Reader}
-use Rattle.capture.proofs.Reader as T
-use Rattle.capture.proofs.Reader.Laws as T′
-use Rattle.capture.proofs.Held.{ReaderOf, sliceAndNumber}
-use Rattle.capture.proofs.Parts as parts
-use Rattle.capture.proofs.Parts.{Claim, OnParts, Pre, Post, parts-stated}
-use Rattle.capture.proofs.Reader.over as over
-use Rattle.capture.proofs.Reader.over.Key as key
-use Rattle.capture.proofs.Reader.over.Statement as stated
-use Rattle.capture.proofs.Reader.over.Code as code
+use Rattle.reader.specs.declared.Reader.{Reader}
+use Rattle.reader.proofs.Reader as T
+use Rattle.reader.proofs.Reader.Laws as T′
+use Rattle.reader.proofs.Held.{ReaderOf, sliceAndNumber}
+use Rattle.reader.proofs.Parts as parts
+use Rattle.reader.proofs.Parts.{Claim, OnParts, Pre, Post, parts-stated}
+use Rattle.reader.proofs.Reader.over as over
+use Rattle.reader.proofs.Reader.over.Key as key
+use Rattle.reader.proofs.Reader.over.Statement as stated
+use Rattle.reader.proofs.Reader.over.Code as code
 
 abbrev Made : Lft → RattleType
 Made κ = ReaderOf (κ, tt)

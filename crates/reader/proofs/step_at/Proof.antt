@@ -4,12 +4,12 @@ use lib.ListN.{drop, length-drop}
 use mathlib.Core.Path.{_≡_, ap, _∙_}
 use native.Mathlib.Omega.{arith}
 use Rattle.base.proofs.Lists.{drop-min}
-use Rattle.capture.specs.Part.{Part}
-use Rattle.capture.specs.Record.{readFirst}
-use Rattle.capture.specs.Capture.{readAt, passed}
+use Rattle.reader.specs.Part.{Part}
+use Rattle.capture.specs.Record.{readFirst, passed}
+use Rattle.reader.specs.Capture.{readAt}
 use Rattle.capture.proofs.Answers.{passed-within}
-use Rattle.capture.proofs.step_at.Statement.{statement}
-use Rattle.capture.proofs.step_at.Tie as tie
+use Rattle.reader.proofs.step_at.Statement.{statement}
+use Rattle.reader.proofs.step_at.Tie as tie
 
 -- the answer is that of the position
 found : (c : tie.After-passed) → c .before .read .result ≡ readAt (c .before .before .before .before .args .capture .now) (c .before .before .before .before .args .at)

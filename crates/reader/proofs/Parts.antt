@@ -26,10 +26,10 @@ use denote.Triple.Spec.{tripleOf}
 use denote.Triple.Walked.{Stays, stay-none, stay-none-slice, walkOf, goes-none, goes-none-slice}
 use denote.Triple.Clauses.{Ended, Clauses, closing}
 use denote.Exit.{yes}
-use Rattle.capture.specs.Reader.{over}
-use Rattle.capture.specs.declared.Reader.{Reader}
-use Rattle.capture.proofs.Held.{sliceAndNumber}
-use Rattle.capture.proofs.Stated.{Ensures, Gives, Own, walk-states}
+use Rattle.reader.specs.Reader.{over}
+use Rattle.reader.specs.declared.Reader.{Reader}
+use Rattle.reader.proofs.Held.{sliceAndNumber}
+use Rattle.reader.proofs.Stated.{Ensures, Gives, Own, walk-states}
 
 -- what a contract says of an answer
 abbrev pub Claim : (Lft → RattleType) → Type 1

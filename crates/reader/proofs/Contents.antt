@@ -9,13 +9,13 @@ use lib.Dec.{eqb}
 use lib.ListN.{length, drop, length-drop}
 use lib.Seq.{drop-drop}
 use denote.Ref.{RefT, now}
 use Rattle.capture.specs.declared.Answer.{Answer}
 use Rattle.capture.specs.declared.Answer.the-variants.{Record, Refused, End}
-use Rattle.capture.specs.Record.{readFirst}
-use Rattle.capture.specs.Part.{from}
-use Rattle.capture.specs.Capture.{readAt, passed, partFrom, stepAt, Contents, takenWith, noMore, readOn, contents}
+use Rattle.capture.specs.Record.{readFirst, passed, takenWith}
+use Rattle.reader.specs.Part.{from}
+use Rattle.reader.specs.Capture.{readAt, partFrom, stepAt, Contents, noMore, readOn, contents}
 use Rattle.capture.proofs.Answers.{answer-of-front, record-within, Numbered}
 use Rattle.capture.proofs.Taken.{four-taken-no-end, taken-numbered}
 
 -- a record read leaves the rest of the caller's own capture, beginning after it
 pub rest-after-record :

@@ -21,11 +21,11 @@ use denote.Triple.Spec.{tripleOf}
 use denote.Triple.Walked.{Stays, stay-none, walkOf, goes-none}
 use denote.Triple.Clauses.{Ended, Clauses, closing}
 use denote.Exit.{yes}
-use Rattle.capture.specs.declared.Reader.{Reader}
-use Rattle.capture.proofs.Reader.Laws as T′
-use Rattle.capture.proofs.Held.{ReaderOf, reader-vals, reader-tells, reader-typed, Typed}
-use Rattle.capture.proofs.Parts.{Claim}
-use Rattle.capture.proofs.Stated.{Ensures, Gives, Own, walk-states}
+use Rattle.reader.specs.declared.Reader.{Reader}
+use Rattle.reader.proofs.Reader.Laws as T′
+use Rattle.reader.proofs.Held.{ReaderOf, reader-vals, reader-tells, reader-typed, Typed}
+use Rattle.reader.proofs.Parts.{Claim}
+use Rattle.reader.proofs.Stated.{Ensures, Gives, Own, walk-states}
 
 module _ (R : Lft → RattleType) where
   abbrev pub ended : Ended
