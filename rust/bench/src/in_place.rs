@@ -293,6 +293,7 @@ impl Screen {
             0x01..=0x03 => {
                 if byte == 0x01 {
                     self.text = [0x20; 128];
+                    self.control[ID] = 1;
                 }
                 self.control[SHIFT] = 0;
                 self.point(TEXT, 0);

@@ -3,6 +3,7 @@
 //!     bench                        times all of it, and prints tables of ratios
 //!     bench draws|writes|replays|programs    only these
 //!     bench turns text|images|graphic       does a million turns of that and prints a number, as `timing` does
+//!     bench agree                  holds the plain Rust panel that is timed to the proved code, on random captures
 //!     bench pictures FOLDER        holds the proved pictures to those stored in FOLDER, a line 'ok ..' each
 //!     bench screens FOLDER         stores the screens, each with its picture, and the fonts, as bytes alone
 //!     bench write-pictures FOLDER  stores the pictures that plain Rust draws dot by dot
@@ -62,11 +63,15 @@ fn main() {
             replays::measure(&fonts)
         }
         ["programs"] => programs::measure(),
+        ["agree"] => {
+            replays::agree(&fonts);
+            println!("ok plain Rust in place: as the proved code on random captures");
+        }
         ["pictures", folder] => passed = pictures::compare(folder, &fonts, &screens),
         ["screens", folder] => passed = pictures::raw(folder, &fonts, &screens),
         ["write-pictures", folder] => passed = pictures::write(folder, &fonts, &screens),
         _ => {
-            eprintln!("usage: bench [draws | writes | replays | programs | turns WHAT | screens FOLDER | pictures FOLDER | write-pictures FOLDER]");
+            eprintln!("usage: bench [draws | writes | replays | programs | turns WHAT | agree | screens FOLDER | pictures FOLDER | write-pictures FOLDER]");
             passed = false;
         }
     };
