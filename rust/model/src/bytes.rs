@@ -2,13 +2,14 @@
 
 use crate::links::{Kind, Link, Receiver};
 use crate::memories::{half_of, Half, Panel, Target};
+use crate::numbering::Numbering;
 
 impl Panel {
     /// Text memory 128 bytes, glyph memory 128, graphic memory 2,048 (high
     /// byte of each word first, graphic row by row), 23 bytes of place, flags
     /// and view, 3 bytes of time (whether it has time; the microseconds left,
-    /// high byte first), 10 bytes of the link: 2,340 in all. What does not
-    /// apply is 0.
+    /// high byte first), 1 byte of the numbering (0 the old, 1 the new), 10
+    /// bytes of the link: 2,341 in all. What does not apply is 0.
     pub fn bytes(&self) -> Vec<u8> {
         let mut out = Vec::new();
         for word in self.text {
@@ -53,6 +54,10 @@ impl Panel {
         }
         out.push(u8::from(self.time));
         push_word(&mut out, self.left);
+        out.push(match self.numbering {
+            Numbering::Old => 0,
+            Numbering::New => 1,
+        });
         out.extend(link_bytes(&self.link));
         out
     }

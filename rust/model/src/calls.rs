@@ -4,6 +4,7 @@
 use crate::links::{Link, Transfer};
 use crate::memories::Panel;
 use crate::named::Named;
+use crate::numbering::Numbering;
 use crate::parallel::parallel;
 use crate::picture::{picture_byte, Lent};
 use crate::serial::serial_bit;
@@ -29,7 +30,8 @@ fn refused(number: u8) -> Outcome {
     }
 }
 
-/// The numbers 1, 2, 3 in this order; 0 if none applies.
+/// The numbers 1, 2, 3 in this order; 0 if none applies. The numbering does not
+/// matter to 3 (reading 49).
 pub(crate) fn buffers_number(frame: &[u8], half: &[u8], full: &[u8]) -> u8 {
     if frame.len() != FRAME_LENGTH {
         1
@@ -147,11 +149,12 @@ impl Panel {
         }
     }
 
-    /// Reset takes the interface pin: 0 serial, 1 parallel. It names all
-    /// 1,024 bytes.
+    /// Reset takes the interface pin, 0 serial, 1 parallel, and the numbering
+    /// that holds until the next. It names all 1,024 bytes.
     pub fn reset(
         &mut self,
         parallel: bool,
+        numbering: Numbering,
         frame: &mut [u8],
         half: &[u8],
         full: &[u8],
@@ -162,7 +165,7 @@ impl Panel {
             return refused(number);
         }
         // Whether it has time survives.
-        *self = Panel::made(parallel, self.time);
+        *self = Panel::made(parallel, self.time, numbering);
         let lent = Lent { half, full, phase };
         Outcome {
             number: 0,

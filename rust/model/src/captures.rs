@@ -4,8 +4,9 @@
 #[derive(Clone, Copy, PartialEq, Eq, Debug)]
 pub struct Record {
     /// 0 instruction write, 1 data write, 2 status read, 3 data read, 4 eight
-    /// serial bits, 5 chip select low, 6 reset; for a panel with time also 7,
-    /// value times 8 microseconds passed.
+    /// serial bits, 5 chip select low, 6 reset (to 0 serial, 1 parallel, 2 and
+    /// 3 the same with the new numbering); for a panel with time also 7, value
+    /// times 8 microseconds passed.
     pub kind: u8,
     pub value: u8,
 }
@@ -70,11 +71,11 @@ impl<'a> Reader<'a> {
     }
 }
 
-/// Kinds 2, 3, 5 need value 0; 6 needs 0 or 1; the others take any.
+/// Kinds 2, 3, 5 need value 0; 6 needs 0 to 3; the others take any.
 fn allowed(kind: u8, value: u8) -> bool {
     match kind {
         2 | 3 | 5 => value == 0,
-        6 => value == 0 || value == 1,
+        6 => value <= 3,
         _ => true,
     }
 }

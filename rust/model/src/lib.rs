@@ -10,14 +10,15 @@
 //! | Memories and flags | `memories`, and `bytes` for comparing states |
 //! | Instructions | `instructions` (the table), `data` (reads and writes) |
 //! | Links | `links`, `parallel`, `serial`, `sender` |
-//! | The picture | `picture` |
+//! | The picture | `picture`, and `numbering` for full glyphs |
 //! | Bytes named for repaint | `named` |
 //! | Refusal numbers | `calls` |
 //! | Captures | `captures`, `replay` |
 //!
 //! A panel may be made with time, as document 02 asks: `time` says when it is
 //! busy, what that loses and what each transfer costs. Clear also sets I/D to
-//! 1, as document 02 asks.
+//! 1, as document 02 asks. And as it asks, a panel has one of two numberings of
+//! full glyphs, chosen when it is made and at each reset.
 
 mod bytes;
 mod calls;
@@ -27,6 +28,7 @@ mod instructions;
 mod links;
 mod memories;
 mod named;
+mod numbering;
 mod parallel;
 mod picture;
 mod replay;
@@ -40,7 +42,7 @@ pub use instructions::{decide, Instruction};
 pub use links::{Kind, Link, Pair, Receiver, Transfer};
 pub use memories::{Half, Panel, Target};
 pub use named::{named, Named};
-pub use picture::full_glyph_number;
+pub use numbering::{full_glyph_number, Numbering};
 pub use replay::{printed, replay, Answer, Replayed};
 pub use sender::send;
 
@@ -48,5 +50,5 @@ pub use sender::send;
 pub const FRAME_LENGTH: usize = 1_024;
 /// A half font: 128 codes of 16 rows.
 pub const HALF_FONT_LENGTH: usize = 2_048;
-/// The longest full font: 8,352 glyphs of 32 bytes.
-pub const FULL_FONT_LIMIT: usize = 267_264;
+/// The longest full font, under either numbering: 8,800 glyphs of 32 bytes.
+pub const FULL_FONT_LIMIT: usize = 281_600;

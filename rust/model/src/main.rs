@@ -6,7 +6,7 @@ use std::ffi::OsString;
 use std::io::{self, Read, Write};
 use std::process::ExitCode;
 
-use model::{printed, replay, Panel, FRAME_LENGTH, HALF_FONT_LENGTH};
+use model::{printed, replay, Numbering, Panel, FRAME_LENGTH, HALF_FONT_LENGTH};
 
 fn main() -> io::Result<ExitCode> {
     let arguments: Vec<OsString> = env::args_os().skip(1).collect();
@@ -20,9 +20,9 @@ fn main() -> io::Result<ExitCode> {
     };
     let mut capture = Vec::new();
     io::stdin().read_to_end(&mut capture)?;
-    // Fresh and parallel, a zero frame, a zero half font, an empty full font,
-    // phase 0.
-    let mut panel = Panel::made(true, time);
+    // Fresh and parallel, the old numbering, a zero frame, a zero half font, an
+    // empty full font, phase 0.
+    let mut panel = Panel::made(true, time, Numbering::Old);
     let mut frame = [0; FRAME_LENGTH];
     let half = [0; HALF_FONT_LENGTH];
     let replayed = replay(&mut panel, &capture, &mut frame, &half, &[], false);

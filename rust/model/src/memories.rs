@@ -1,6 +1,7 @@
 //! Memories and flags.
 
 use crate::links::Link;
+use crate::numbering::Numbering;
 
 /// The memory that data transfers read and write.
 #[derive(Clone, Copy, PartialEq, Eq, Debug)]
@@ -61,17 +62,21 @@ pub struct Panel {
     /// Microseconds left in which it is busy, 0..1,600; without time 0.
     pub left: u16,
 
+    /// Which numbering it has; only reset changes it.
+    pub numbering: Numbering,
+
     pub link: Link,
 }
 
 impl Panel {
-    /// Fresh, without time. The interface pin: 0 serial, 1 parallel.
+    /// Fresh, without time, with the old numbering. The interface pin: 0
+    /// serial, 1 parallel.
     pub fn fresh(parallel: bool) -> Panel {
-        Panel::made(parallel, false)
+        Panel::made(parallel, false, Numbering::Old)
     }
 
-    /// Fresh, also after reset, with or without time.
-    pub fn made(parallel: bool, time: bool) -> Panel {
+    /// Fresh, also after reset, with or without time, with either numbering.
+    pub fn made(parallel: bool, time: bool, numbering: Numbering) -> Panel {
         Panel {
             // Text bytes 20h, the other memories 0.
             text: [0x2020; 64],
@@ -104,6 +109,7 @@ impl Panel {
             // Not busy.
             time,
             left: 0,
+            numbering,
             // Link idle.
             link: Link::idle(parallel),
         }

@@ -1,6 +1,7 @@
 //! The picture, dot by dot.
 
 use crate::memories::{bit, half_of, Half, Panel, Target};
+use crate::numbering::full_glyph_number;
 
 /// The two lent fonts and the blink phase.
 #[derive(Clone, Copy)]
@@ -24,16 +25,6 @@ pub(crate) fn shown_word(panel: &Panel, s: usize, k: usize) -> usize {
 pub(crate) fn image_of(word: u16) -> Option<usize> {
     if word <= 0x000F {
         Some((usize::from(half_of(word, Half::Low)) / 2) % 4)
-    } else {
-        None
-    }
-}
-
-/// Full glyph number (lead - A1h) 96 + (trail - A0h), for lead A1h to F7h,
-/// trail from A0h.
-pub fn full_glyph_number(lead: u8, trail: u8) -> Option<usize> {
-    if (0xA1..=0xF7).contains(&lead) && trail >= 0xA0 {
-        Some((usize::from(lead) - 0xA1) * 96 + (usize::from(trail) - 0xA0))
     } else {
         None
     }
@@ -98,7 +89,8 @@ fn glyph_dot(panel: &Panel, word: u16, y: usize, across: usize, lent: Lent) -> b
     let low = half_of(word, Half::Low);
     // High byte A1h or more: a full glyph, or blank.
     if high >= 0xA1 {
-        return full_dot(lent.full, high, low, y, across);
+        let number = full_glyph_number(panel.numbering, high, low);
+        return full_dot(lent.full, number, y, across);
     }
     // Otherwise each byte by itself.
     if across < 8 {
@@ -108,10 +100,10 @@ fn glyph_dot(panel: &Panel, word: u16, y: usize, across: usize, lent: Lent) -> b
     }
 }
 
-/// A full glyph inside the lent font, else blank. Row y is at 32 i + 2 y and
-/// the next byte.
-fn full_dot(full: &[u8], lead: u8, trail: u8, y: usize, across: usize) -> bool {
-    let Some(i) = full_glyph_number(lead, trail) else {
+/// Full glyph number i inside the lent font, else blank, as without a number.
+/// Row y is at 32 i + 2 y and the next byte.
+fn full_dot(full: &[u8], number: Option<usize>, y: usize, across: usize) -> bool {
+    let Some(i) = number else {
         return false;
     };
     if 32 * i + 32 > full.len() {

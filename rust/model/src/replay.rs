@@ -6,6 +6,7 @@ use crate::calls::{buffers_number, Outcome};
 use crate::captures::{Reader, Record};
 use crate::links::{Link, Transfer};
 use crate::memories::{bit, Panel};
+use crate::numbering::Numbering;
 
 /// The answer of one accepted record.
 #[derive(Clone, Copy, PartialEq, Eq, Debug)]
@@ -83,8 +84,15 @@ fn obey(
         3 => panel.transfer(Transfer::DataRead, frame, half, full, phase),
         4 => eight_bits(panel, value, frame, half, full, phase),
         5 => panel.select_low(frame, half, full, phase),
-        // 0 serial, 1 parallel.
-        6 => panel.reset(value == 1, frame, half, full, phase),
+        // Bit 0 is the interface pin, bit 1 the numbering (reading 47).
+        6 => {
+            let numbering = if bit(value, 1) {
+                Numbering::New
+            } else {
+                Numbering::Old
+            };
+            panel.reset(bit(value, 0), numbering, frame, half, full, phase)
+        }
         _ => panel.pass(value, frame, half, full, phase),
     }
 }

@@ -63,7 +63,7 @@ fn what_is_sent_is_received() {
             let count = bench.serial_bytes(&buffer);
             assert_eq!(count, plain.call(transfer((register, byte))).count);
             assert_eq!(
-                bench.panel.bytes()[2_330..],
+                bench.panel.bytes()[2_331..],
                 [1, 0, 0, 2, 0, 0, 0, u8::from(register), 0, 0]
             );
             let dl = bench.panel.dl;

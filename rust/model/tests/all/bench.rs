@@ -1,6 +1,6 @@
 //! A panel with its frame and fonts, and a seeded generator.
 
-use model::{send, Half, Kind, Link, Outcome, Panel, Target, Transfer};
+use model::{send, Half, Kind, Link, Numbering, Outcome, Panel, Target, Transfer};
 
 /// A small xorshift generator.
 pub struct Dice(u64);
@@ -27,6 +27,10 @@ impl Dice {
 
     pub fn flag(&mut self) -> bool {
         self.below(2) == 1
+    }
+
+    pub fn numbering(&mut self) -> Numbering {
+        NUMBERINGS[self.below(2) as usize]
     }
 
     pub fn bytes(&mut self, length: usize) -> Vec<u8> {
@@ -78,6 +82,7 @@ impl Dice {
         panel.scroll = self.below(64) as u8;
         panel.shift = self.below(16) as u8;
         panel.reversed = std::array::from_fn(|_| self.flag());
+        panel.numbering = self.numbering();
         panel
     }
 
@@ -110,6 +115,8 @@ pub enum Over {
 }
 
 pub const LINKS: [Over; 3] = [Over::Bytes, Over::HalfBytes, Over::Serial];
+
+pub const NUMBERINGS: [Numbering; 2] = [Numbering::Old, Numbering::New];
 
 /// A panel, its frame and the lent fonts. Every accepted call is checked: the
 /// frame stays the picture of the present state.
@@ -158,9 +165,9 @@ impl Bench {
         Bench::with(panel)
     }
 
-    /// Fresh, with time.
+    /// Fresh, with time, with the old numbering.
     pub fn timed(over: Over) -> Bench {
-        Bench::over(over, Panel::made(true, true))
+        Bench::over(over, Panel::made(true, true, Numbering::Old))
     }
 
     pub fn picture(&self) -> Vec<u8> {
@@ -288,10 +295,11 @@ impl Bench {
             .select_low(&mut self.frame, half, full, self.phase)
     }
 
-    pub fn reset(&mut self, parallel: bool) -> Outcome {
+    pub fn reset(&mut self, parallel: bool, numbering: Numbering) -> Outcome {
         let (half, full) = (&self.half, &self.full);
+        let frame = &mut self.frame;
         self.panel
-            .reset(parallel, &mut self.frame, half, full, self.phase)
+            .reset(parallel, numbering, frame, half, full, self.phase)
     }
 }
 

@@ -3,7 +3,7 @@
 use std::io::Write;
 use std::process::{Command, Output, Stdio};
 
-use crate::bench::{Bench, Dice};
+use crate::bench::{Bench, Dice, NUMBERINGS};
 use model::{printed, replay, Answer, Half, Outcome, Panel, Reader, Record, Replayed, Transfer};
 
 pub fn records(list: &[(u8, u8)]) -> Vec<u8> {
@@ -41,7 +41,7 @@ fn readings_33_and_34_stops() {
         ((2, 1), 9),
         ((3, 1), 9),
         ((5, 1), 9),
-        ((6, 2), 9),
+        ((6, 4), 9),
         ((6, 255), 9),
         // Of the other link, but the value is tested first.
         ((5, 0), 5),
@@ -206,7 +206,7 @@ fn replay_equals_the_calls() {
         let length = dice.below(30);
         let list: Vec<(u8, u8)> = (0..length)
             .map(|_| match dice.below(30) {
-                0 => (6, dice.below(2) as u8),
+                0 => (6, dice.below(4) as u8),
                 1 => (dice.byte(), dice.byte()),
                 2..=11 => (0, dice.byte()),
                 12..=21 => (1, dice.text_byte()),
@@ -216,8 +216,9 @@ fn replay_equals_the_calls() {
                 _ => (3, 0),
             })
             .collect();
-        let mut bench = Bench::with(Panel::made(true, time));
-        let mut panel = Panel::made(true, time);
+        let numbering = NUMBERINGS[round / 4 % 2];
+        let mut bench = Bench::with(Panel::made(true, time, numbering));
+        let mut panel = Panel::made(true, time, numbering);
         let mut frame = bench.picture();
         let (half, full) = (bench.half.clone(), bench.full.clone());
         let replayed = replay(&mut panel, &records(&list), &mut frame, &half, &full, true);
@@ -229,7 +230,7 @@ fn replay_equals_the_calls() {
                 3 => bench.call(Transfer::DataRead),
                 4 => panic!("on a serial panel only"),
                 5 => bench.select_low(),
-                6 => bench.reset(value == 1),
+                6 => bench.reset(value % 2 == 1, NUMBERINGS[usize::from(value / 2)]),
                 _ => {
                     bench.pass(value);
                     Outcome {

@@ -7,6 +7,7 @@ mod calls;
 mod clear;
 mod data;
 mod instructions;
+mod numbering;
 mod panel_readings;
 mod parallel;
 mod picture;

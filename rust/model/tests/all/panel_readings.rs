@@ -1,7 +1,7 @@
 //! The twelve panel readings of document 01, and its replay example.
 
 use crate::bench::Bench;
-use model::{full_glyph_number, printed, replay, Half, Panel, Target, Transfer};
+use model::{full_glyph_number, printed, replay, Half, Numbering, Panel, Target, Transfer};
 
 /// What a panel reading leaves untouched is as in the given panel.
 fn assert_state(bench: &Bench, expected: &Panel) {
@@ -122,11 +122,12 @@ fn case_8_graphic_word() {
 
 #[test]
 fn case_9_glyph_numbers() {
-    assert_eq!(full_glyph_number(0xA1, 0xA0), Some(0));
-    assert_eq!(full_glyph_number(0xF7, 0xFF), Some(8_351));
-    assert_eq!(full_glyph_number(0xF8, 0xA0), None);
-    assert_eq!(full_glyph_number(0xA1, 0x9F), None);
-    assert_eq!(full_glyph_number(0xA0, 0xA0), None);
+    let number = |lead, trail| full_glyph_number(Numbering::Old, lead, trail);
+    assert_eq!(number(0xA1, 0xA0), Some(0));
+    assert_eq!(number(0xF7, 0xFF), Some(8_351));
+    assert_eq!(number(0xF8, 0xA0), None);
+    assert_eq!(number(0xA1, 0x9F), None);
+    assert_eq!(number(0xA0, 0xA0), None);
 }
 
 #[test]
@@ -151,7 +152,7 @@ fn case_11_serial_stores() {
     expected.text[0] = 0x2D20;
     expected.next = Half::Low;
     // Still in the body of the data header, no bit seen.
-    assert_eq!(bench.panel.bytes()[2_330..], [1, 0, 0, 2, 0, 0, 0, 1, 0, 0]);
+    assert_eq!(bench.panel.bytes()[2_331..], [1, 0, 0, 2, 0, 0, 0, 1, 0, 0]);
     expected.link = bench.panel.link;
     assert_state(&bench, &expected);
 }
@@ -161,7 +162,7 @@ fn case_12_serial_stores_nothing() {
     let mut bench = Bench::serial();
     assert_eq!(bench.serial_bytes(&[0xFA, 0x20, 0xD1]), 0);
     // Sync is lost; the one that lost it counts in the run.
-    assert_eq!(bench.panel.bytes()[2_330..], [1, 0, 0, 0, 1, 0, 0, 0, 0, 0]);
+    assert_eq!(bench.panel.bytes()[2_331..], [1, 0, 0, 0, 1, 0, 0, 0, 0, 0]);
     let mut expected = Panel::fresh(false);
     expected.link = bench.panel.link;
     assert_state(&bench, &expected);
@@ -182,22 +183,22 @@ fn replay_example() {
 #[test]
 fn fresh_as_bytes() {
     let bytes = Panel::fresh(true).bytes();
-    assert_eq!(bytes.len(), 128 + 128 + 2_048 + 23 + 3 + 10);
-    assert_eq!(bytes.len(), 2_340);
+    assert_eq!(bytes.len(), 128 + 128 + 2_048 + 23 + 3 + 1 + 10);
+    assert_eq!(bytes.len(), 2_341);
     assert!(bytes[..128].iter().all(|&byte| byte == 0x20));
     assert!(bytes[128..2_304].iter().all(|&byte| byte == 0));
     // I/D and DL are 1, all else is 0.
-    let ones: Vec<usize> = (2_304..2_340).filter(|&i| bytes[i] != 0).collect();
+    let ones: Vec<usize> = (2_304..2_341).filter(|&i| bytes[i] != 0).collect();
     assert_eq!(ones, [2_304 + 7, 2_304 + 12]);
     assert_eq!((bytes[2_311], bytes[2_316]), (1, 1));
     let serial = Panel::fresh(false).bytes();
-    assert_eq!(serial[2_330..], [1, 0, 0, 0, 0, 0, 0, 0, 0, 0]);
-    assert_eq!(serial[..2_330], bytes[..2_330]);
+    assert_eq!(serial[2_331..], [1, 0, 0, 0, 0, 0, 0, 0, 0, 0]);
+    assert_eq!(serial[..2_331], bytes[..2_331]);
     // Made with time: one byte differs, the two of the time left are 0.
-    let timed = Panel::made(true, true).bytes();
-    let other: Vec<usize> = (0..2_340).filter(|&i| timed[i] != bytes[i]).collect();
+    let timed = Panel::made(true, true, Numbering::Old).bytes();
+    let other: Vec<usize> = (0..2_341).filter(|&i| timed[i] != bytes[i]).collect();
     assert_eq!((other, timed[2_327]), (vec![2_327], 1));
-    let mut busy = Panel::made(false, true);
+    let mut busy = Panel::made(false, true, Numbering::Old);
     busy.left = 1_600;
     assert_eq!(busy.bytes()[2_327..2_330], [1, 0x06, 0x40]);
 }

@@ -64,7 +64,7 @@ fn reading_14_writes_act_at_the_second_half() {
         bits: 0x80,
     }));
     assert_eq!(bench.panel, expected);
-    assert_eq!(bench.panel.bytes()[2_330..][..3], [0, 1, 0x80]);
+    assert_eq!(bench.panel.bytes()[2_331..][..3], [0, 1, 0x80]);
     assert_eq!(bench.instruction(0x5F), 64);
     assert_eq!(bench.panel.counter, 0x05);
     assert_eq!(open(&bench.panel), None);
@@ -79,7 +79,7 @@ fn reading_14_reads_act_at_the_first_half() {
     let mut bench = Bench::with(before);
     assert_eq!(bench.read(), (0x20, 0));
     assert_eq!(bench.panel.next, Half::Low);
-    assert_eq!(bench.panel.bytes()[2_330..][..3], [0, 4, 0xD0]);
+    assert_eq!(bench.panel.bytes()[2_331..][..3], [0, 4, 0xD0]);
     assert_eq!(bench.read(), (0xD0, 0));
     assert_eq!(bench.panel.next, Half::Low);
     // The count of a read that names bytes is its first half's.
@@ -89,7 +89,7 @@ fn reading_14_reads_act_at_the_first_half() {
     assert_eq!(bench.panel.counter, 6);
     // Status: 06h as 00h and 60h.
     assert_eq!(bench.status(), 0x00);
-    assert_eq!(bench.panel.bytes()[2_330..][..3], [0, 3, 0x60]);
+    assert_eq!(bench.panel.bytes()[2_331..][..3], [0, 3, 0x60]);
     assert_eq!(bench.status(), 0x60);
     assert_eq!(open(&bench.panel), None);
     // A dropped read has acted; its low bits are not handed over.

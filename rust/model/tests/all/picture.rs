@@ -164,11 +164,11 @@ fn reading_25_only_at_the_counter() {
 fn dot_by_dot_equals_word_by_word() {
     let mut dice = Dice::new(51);
     let half = dice.bytes(2_048);
-    let long = dice.bytes(267_264);
+    let long = dice.bytes(281_600);
     for round in 0..3_000 {
         let panel = dice.panel(round % 2 == 0);
-        let length = [0, 32, 32 * 100, 32 * 8_351, 267_264][dice.below(5) as usize];
-        let full = &long[..length];
+        let glyphs = [0, 1, 100, 8_351, 8_352, 8_353, 8_799, 8_800];
+        let full = &long[..32 * glyphs[dice.below(8) as usize]];
         let phase = dice.flag();
         let mut frame = vec![0x55; 1_024];
         assert_eq!(panel.draw(&mut frame, &half, full, phase), 0);

@@ -1,16 +1,30 @@
 //! Refusal numbers: when, only then, in order, with nothing changed.
 
-use crate::bench::Dice;
-use model::{printed, replay, send, Link, Outcome, Panel, Reader, Record, Transfer};
+use crate::bench::{Dice, NUMBERINGS};
+use model::{printed, replay, send, Link, Numbering, Outcome, Panel, Reader, Record, Transfer};
 
-/// A panel of each link, without time and busy.
-fn panels(dice: &mut Dice) -> [Panel; 4] {
-    [
-        dice.panel(true),
-        dice.panel(false),
-        dice.busy(true),
-        dice.busy(false),
-    ]
+/// A panel of each link, without time and busy, under each numbering.
+fn panels(dice: &mut Dice) -> Vec<Panel> {
+    let mut panels = Vec::new();
+    for numbering in NUMBERINGS {
+        for mut panel in [
+            dice.panel(true),
+            dice.panel(false),
+            dice.busy(true),
+            dice.busy(false),
+        ] {
+            panel.numbering = numbering;
+            panels.push(panel);
+        }
+    }
+    panels
+}
+
+/// The interface pin and the numbering, as a reset takes them.
+fn resets() -> impl Iterator<Item = (bool, Numbering)> {
+    [true, false]
+        .into_iter()
+        .flat_map(|pin| NUMBERINGS.map(|numbering| (pin, numbering)))
 }
 
 fn is_parallel(panel: &Panel) -> bool {
@@ -55,16 +69,18 @@ fn assert_refused(frame: usize, half: usize, full: usize, number: u8) {
                 (number, 0, 0)
             );
         }
-        for pin in [false, true] {
-            let outcome = panel.reset(pin, &mut lent, &half, &full, true);
+        for (pin, numbering) in resets() {
+            let outcome = panel.reset(pin, numbering, &mut lent, &half, &full, true);
             assert_eq!(
                 (outcome.number, outcome.reply, outcome.count),
                 (number, 0, 0)
             );
         }
         // A replay refuses as a call, also with an empty capture.
-        for capture in [vec![], vec![0xA5], vec![0xA5, 0x5A, 6, 1], vec![1; 8]] {
-            let replayed = replay(&mut panel, &capture, &mut lent, &half, &full, true);
+        let resets = [vec![0xA5, 0x5A, 6, 1], vec![0xA5, 0x5A, 6, 3]];
+        let others = [vec![], vec![0xA5], vec![1; 8]];
+        for capture in resets.iter().chain(&others) {
+            let replayed = replay(&mut panel, capture, &mut lent, &half, &full, true);
             assert_eq!((replayed.place, replayed.number), (0, number));
             assert!(replayed.answers.is_empty());
             assert_eq!(printed(&replayed), format!("stop 0 {number}\n"));
@@ -78,7 +94,7 @@ fn assert_accepted(full: usize) {
     let full = vec![2; full];
     let mut dice = Dice::new(4);
     for before in panels(&mut dice) {
-        for pin in [true, false] {
+        for (pin, numbering) in resets() {
             let mut panel = before.clone();
             let mut frame = vec![0x77; 1_024];
             for (link, outcome) in all_calls(&mut panel, &mut frame, &[1; 2_048], &full) {
@@ -90,12 +106,12 @@ fn assert_accepted(full: usize) {
                 };
                 assert_eq!(outcome.number, expected);
             }
-            let outcome = panel.reset(pin, &mut frame, &[1; 2_048], &full, true);
+            let outcome = panel.reset(pin, numbering, &mut frame, &[1; 2_048], &full, true);
             assert_eq!(
                 (outcome.number, outcome.reply, outcome.count),
                 (0, 0, 1_024)
             );
-            assert_eq!(panel, Panel::made(pin, before.time));
+            assert_eq!(panel, Panel::made(pin, before.time, numbering));
             assert_eq!(frame, vec![0; 1_024]);
         }
     }
@@ -117,10 +133,10 @@ fn number_2_half_font() {
 
 #[test]
 fn number_3_full_font() {
-    for length in [1, 31, 33, 267_263, 267_265, 267_296] {
+    for length in [1, 31, 33, 267_263, 267_265, 281_599, 281_601, 281_632] {
         assert_refused(1_024, 2_048, length, 3);
     }
-    for length in [0, 32, 64, 267_264] {
+    for length in [0, 32, 64, 267_264, 267_296, 281_600] {
         assert_accepted(length);
     }
 }
@@ -215,7 +231,7 @@ fn numbers_8_and_9_kind_and_value() {
                 let expected = match (kind, value) {
                     (7, _) if !time => Err(8),
                     (8..=255, _) => Err(8),
-                    (2 | 3 | 5, 1..=255) | (6, 2..=255) => Err(9),
+                    (2 | 3 | 5, 1..=255) | (6, 4..=255) => Err(9),
                     _ => Ok(Record { kind, value }),
                 };
                 assert_eq!(reader.read(), expected);

@@ -4,7 +4,7 @@ use std::collections::BTreeSet;
 
 use crate::bench::{without_link, Bench, Dice};
 use crate::second_picture::{cell, graphic_byte, image_bytes};
-use model::{named, Half, Named, Panel, Target, Transfer};
+use model::{named, Half, Named, Numbering, Panel, Target, Transfer};
 
 fn set(named: &Named) -> BTreeSet<usize> {
     (0..1_024).filter(|&place| named.has(place)).collect()
@@ -162,7 +162,7 @@ fn reading_30_reset_and_what_names_none() {
     bench.instruction(0x0F);
     assert_eq!(bench.status(), 0);
     bench.frame = vec![0x77; 1_024];
-    let outcome = bench.reset(false);
+    let outcome = bench.reset(false, Numbering::Old);
     assert_eq!(
         (outcome.number, outcome.reply, outcome.count),
         (0, 0, 1_024)
@@ -178,9 +178,9 @@ fn reading_30_reset_and_what_names_none() {
     let mut dice = Dice::new(64);
     for round in 0..50 {
         let mut bench = Bench::with(dice.panel(round % 2 == 0));
-        let pin = dice.flag();
-        assert_eq!(bench.reset(pin).count, 1_024);
-        assert_eq!(bench.panel, Panel::fresh(pin));
+        let (pin, numbering) = (dice.flag(), dice.numbering());
+        assert_eq!(bench.reset(pin, numbering).count, 1_024);
+        assert_eq!(bench.panel, Panel::made(pin, false, numbering));
         assert_eq!(bench.frame, bench.picture());
     }
 }

@@ -3,7 +3,7 @@
 
 use std::collections::BTreeSet;
 
-use model::{Half, Panel, Target};
+use model::{Half, Numbering, Panel, Target};
 
 /// The picture, one 16-bit word per cell row.
 pub fn second_picture(panel: &Panel, half: &[u8], full: &[u8], phase: bool) -> Vec<u8> {
@@ -39,14 +39,14 @@ fn cell_row(panel: &Panel, word: u16, y: usize, half: &[u8], full: &[u8]) -> u16
     let [high, low] = word.to_be_bytes();
     match (high, low) {
         (0, 0..=15) => panel.glyph[usize::from(low >> 1 & 3) * 16 + y],
-        (0xA1..=0xF7, 0xA0..=0xFF) => {
-            let number = usize::from(high - 0xA1) * 96 + usize::from(low - 0xA0);
-            match full.chunks_exact(32).nth(number) {
+        (0xA1..=0xFF, _) => {
+            let glyph = second_number(panel.numbering, word)
+                .and_then(|number| full.chunks_exact(32).nth(number));
+            match glyph {
                 Some(glyph) => u16::from_be_bytes([glyph[2 * y], glyph[2 * y + 1]]),
                 None => 0,
             }
         }
-        (0xA1..=0xFF, _) => 0,
         _ => {
             let one = |code: u8| match code {
                 0x02..=0x7F => half[usize::from(code) * 16 + y],
@@ -55,6 +55,21 @@ fn cell_row(panel: &Panel, word: u16, y: usize, half: &[u8], full: &[u8]) -> u16
             u16::from_be_bytes([one(high), one(low)])
         }
     }
+}
+
+/// The number of a full glyph: the place of its trail among those allowed, in
+/// the row of its lead among those allowed.
+pub fn second_number(numbering: Numbering, word: u16) -> Option<usize> {
+    let [lead, trail] = word.to_be_bytes();
+    let (last, row, skipped) = match (numbering, trail) {
+        (Numbering::Old, 0xA0..) => (0xF7, 96, 0xA0),
+        (Numbering::New, 0x40..=0x7F) => (0xD7, 160, 0x40),
+        // The 32 trails 80h..9Fh are left out.
+        (Numbering::New, 0xA0..) => (0xD7, 160, 0x40 + 32),
+        _ => return None,
+    };
+    let before = usize::from(lead.checked_sub(0xA1)?);
+    (lead <= last).then(|| before * row + usize::from(trail - skipped))
 }
 
 /// The frame rows that show row s of 64: one or none.

@@ -152,7 +152,7 @@ fn reading_20_select_low_makes_idle_and_no_more() {
         assert_eq!((outcome.number, outcome.reply, outcome.count), (0, 0, 0));
         assert_eq!(bench.panel, expected);
         assert_eq!(bench.frame, frame);
-        assert_eq!(bench.panel.bytes()[2_330..], [1, 0, 0, 0, 0, 0, 0, 0, 0, 0]);
+        assert_eq!(bench.panel.bytes()[2_331..], [1, 0, 0, 0, 0, 0, 0, 0, 0, 0]);
     }
 }
 

@@ -5,8 +5,8 @@ use crate::bench::{without_link, Bench, Dice, Over, LINKS};
 use crate::calls::{program_with, records};
 use crate::instructions::is_ignored;
 use model::{
-    named, printed, replay, Kind, Link, Named, Outcome, Pair, Panel, Reader, Record, Replayed,
-    Transfer,
+    named, printed, replay, Kind, Link, Named, Numbering, Outcome, Pair, Panel, Reader, Record,
+    Replayed, Transfer,
 };
 
 const PARALLEL: [Over; 2] = [Over::Bytes, Over::HalfBytes];
@@ -38,7 +38,10 @@ fn customers_list() -> Vec<u8> {
 
 #[test]
 fn the_customers_example() {
-    let replayed = run(&mut Panel::made(true, true), &customers_list());
+    let replayed = run(
+        &mut Panel::made(true, true, Numbering::Old),
+        &customers_list(),
+    );
     let lines = "0 -- 1024\n1 80 0\n2 -- 0\n3 80 0\n4 -- 0\n5 00 0\nend 6\n";
     assert_eq!(printed(&replayed), lines);
     // The same without time stops at the first kind 7.
@@ -82,8 +85,8 @@ fn reading_41_status_while_busy() {
 #[test]
 fn reading_38_time_is_fixed_when_made() {
     for parallel in [true, false] {
-        let with = Panel::made(parallel, true);
-        let without = Panel::made(parallel, false);
+        let with = Panel::made(parallel, true, Numbering::Old);
+        let without = Panel::made(parallel, false, Numbering::Old);
         assert!(with.time && !without.time);
         assert_eq!(without, Panel::fresh(parallel));
         let mut same = with.clone();
@@ -103,19 +106,19 @@ fn reading_38_reset() {
         for pin in [false, true] {
             for from in [false, true] {
                 let mut bench = Bench::with(dice.busy(from));
-                assert_eq!(bench.reset(pin).count, 1_024);
-                assert_eq!(bench.panel, Panel::made(pin, true));
+                assert_eq!(bench.reset(pin, Numbering::Old).count, 1_024);
+                assert_eq!(bench.panel, Panel::made(pin, true, Numbering::Old));
                 assert!(!bench.panel.busy());
                 assert_eq!(bench.frame, bench.picture());
                 let mut bench = Bench::with(dice.panel(from));
-                assert_eq!(bench.reset(pin).count, 1_024);
-                assert_eq!(bench.panel, Panel::made(pin, false));
+                assert_eq!(bench.reset(pin, Numbering::Old).count, 1_024);
+                assert_eq!(bench.panel, Panel::made(pin, false, Numbering::Old));
             }
         }
     }
     // Kind 7 is a record still after a reset to either link.
     let capture = records(&[(7, 1), (6, 0), (7, 1), (6, 1), (7, 1)]);
-    let replayed = run(&mut Panel::made(true, true), &capture);
+    let replayed = run(&mut Panel::made(true, true, Numbering::Old), &capture);
     assert_eq!((replayed.place, replayed.number), (5, 0));
 }
 
@@ -135,7 +138,7 @@ fn reading_38_without_time_nothing_is_left() {
 #[test]
 fn reading_39_busy_means_more_than_0_left() {
     for left in 0..=1_600 {
-        let mut panel = Panel::made(true, true);
+        let mut panel = Panel::made(true, true, Numbering::Old);
         panel.left = left;
         assert_eq!(panel.busy(), left > 0);
     }
@@ -193,14 +196,14 @@ fn reading_39_pass_changes_nothing_else() {
 #[test]
 fn kind_7_is_value_times_8_microseconds() {
     for value in 0..=255 {
-        let mut panel = Panel::made(true, true);
+        let mut panel = Panel::made(true, true, Numbering::Old);
         let replayed = run(&mut panel, &records(&[(0, 0x01), (7, value)]));
         let lines = "0 -- 1024\n1 -- 0\nend 2\n";
         assert_eq!(printed(&replayed), lines);
         let left = 1_600 - (8 * u16::from(value)).min(1_600);
         assert_eq!(panel.left, left);
         // On the serial link the same.
-        let mut panel = Panel::made(false, true);
+        let mut panel = Panel::made(false, true, Numbering::Old);
         let list = [(4, 0xF8), (4, 0x00), (4, 0x10), (7, value)];
         let replayed = run(&mut panel, &records(&list));
         assert_eq!((replayed.place, replayed.number), (4, 0));
@@ -559,7 +562,7 @@ fn pairing_goes_on_as_before() {
         without_link(&Panel::fresh(true))
     );
     busy.panel.left = 0;
-    let fresh = Panel::made(true, true);
+    let fresh = Panel::made(true, true, Numbering::Old);
     assert_eq!(without_link(&busy.panel), without_link(&fresh));
 }
 
@@ -593,18 +596,18 @@ fn reading_43_kind_7_is_a_record_only_with_time() {
         assert_eq!(Reader::new(&bytes).read(), Err(8));
         for parallel in [true, false] {
             for time in [true, false] {
-                let mut panel = Panel::made(parallel, time);
+                let mut panel = Panel::made(parallel, time, Numbering::Old);
                 let replayed = run(&mut panel, &bytes);
                 let expected = if time { (1, 0) } else { (0, 8) };
                 assert_eq!((replayed.place, replayed.number), expected);
-                assert_eq!(panel, Panel::made(parallel, time));
+                assert_eq!(panel, Panel::made(parallel, time, Numbering::Old));
             }
         }
     }
     for kind in 8..=255 {
         let bytes = [0xA5, 0x5A, kind, 0];
         assert_eq!(Reader::made(&bytes, true).read(), Err(8));
-        let replayed = run(&mut Panel::made(true, true), &bytes);
+        let replayed = run(&mut Panel::made(true, true, Numbering::Old), &bytes);
         assert_eq!((replayed.place, replayed.number), (0, 8));
     }
     // 6 and 7 come before 8, with time too.

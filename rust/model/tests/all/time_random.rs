@@ -46,7 +46,7 @@ fn without_time_never_busy() {
         for _ in 0..60 {
             anything(&mut bench, &mut dice);
             if dice.below(10) == 0 {
-                bench.reset(dice.flag());
+                bench.reset(dice.flag(), dice.numbering());
             }
             assert_eq!((bench.panel.time, bench.panel.left), (false, 0));
             if let Link::Parallel(None) = bench.panel.link {
@@ -67,7 +67,7 @@ fn with_time_at_most_1_600() {
         for _ in 0..80 {
             match dice.below(24) {
                 0 => {
-                    bench.reset(dice.flag());
+                    bench.reset(dice.flag(), dice.numbering());
                     assert!(!bench.panel.busy());
                 }
                 1 if matches!(bench.panel.link, Link::Serial(_)) => {
