@@ -1,5 +1,6 @@
-// Functions for C or Rust to link: numbers and byte slices alone cross the border. A state crosses it as 2,340 bytes, and its controls
-// alone as 26 of them. Nothing is asked of a caller.
+// Functions for C or Rust to link: numbers and byte slices alone cross the border. A state crosses it as 2,341 bytes, and its controls
+// alone as 27 of them. Nothing is asked of a caller.
+use controller::controls::numbering;
 use events::Made;
 use panel::Panel;
 use picture::refusals::refusal;
@@ -8,6 +9,7 @@ use spelling::spell_state;
 use unpacking::unpack;
 ghost use mathlib.Core.Path.{_≡_};
 ghost use Rattle.controller.specs.Memories.{before};
+ghost use Rattle.controller.specs.State.{numberingOf};
 ghost use Rattle.picture.specs.Picture.{seen};
 ghost use Rattle.picture.specs.Refusals.{drawing, drawn};
 ghost use Rattle.sender.specs.Sender.{leaving, sent};
@@ -20,7 +22,7 @@ pub extern "C" fn zifqarell_draw(
     text: &[u8; 128],
     glyph: &[u8; 128],
     graphic: &[u8; 2048],
-    control: &[u8; 26],
+    control: &[u8; 27],
     frame: &mut [u8],
     half: &[u8],
     full: &[u8],
@@ -40,28 +42,34 @@ pub extern "C" fn zifqarell_send(register: bool, byte: u8, buffer: &mut [u8]) ->
     sender::send(register, byte, buffer)
 }
 
-// Replays a capture on a fresh panel, with or without time, and answers the number with which that stopped, 0 at the end of the
-// capture. Leaves the state in which the panel then is, and the place with what the last accepted record answered. Refused with
-// 1, 2 or 3 it leaves all that it was lent.
+// Replays a capture on a fresh panel, with or without time, by the old numbering or the new (`by160`), and answers the number with which
+// that stopped, 0 at the end of the capture. Leaves the state in which the panel then is, and the place with what the last accepted
+// record answered. Refused with 1, 2 or 3 it leaves all that it was lent.
 #[no_mangle]
 pub extern "C" fn zifqarell_replay(
     parallel: bool,
     time: bool,
+    by160: bool,
     capture: &[u8],
     frame: &mut [u8],
     half: &[u8],
     full: &[u8],
     phase: bool,
-    state: &mut [u8; 2340],
+    state: &mut [u8; 2341],
     last: &mut [u8; 11],
 ) -> u8
-    ensures { λ r. ⌜ report r (now (frame .exit)) (now (state .exit)) (now (last .exit)) ≡ freshReplay (record { parallel = parallel; time = time }) (seen half full phase) (now (capture .entry)) (now (frame .entry)) (now (state .entry)) (now (last .entry)) ⌝ }
+    ensures { λ r. ⌜ report r (now (frame .exit)) (now (state .exit)) (now (last .exit)) ≡ freshReplay (record { parallel = parallel; time = time; numbering = numberingOf by160 }) (seen half full phase) (now (capture .entry)) (now (frame .entry)) (now (state .entry)) (now (last .entry)) ⌝ }
 {
     let number = refusal(frame.len(), half.len(), full.len());
     if number != 0 {
         return number;
     }
-    let fresh = Panel::fresh(Made { parallel, time });
+    let numbering = numbering(by160);
+    let fresh = Panel::fresh(Made {
+        parallel,
+        time,
+        numbering,
+    });
     let stop = playback::replay(fresh, capture, frame, half, full, phase);
     let panel = stop.panel;
     spell_state(panel, state);

@@ -1,4 +1,4 @@
--- Document 01, "Captures", and request K1: the kinds of records. What holds of a kind is a table with a clause for each.
+-- Document 01, "Captures", and requests K1 and K3: the kinds of records. What holds of a kind is a table with a clause for each.
 use Prim.Native.Nat.{ℕ}
 use mathlib.Core.Bool.{Bool, true, false}
 use mathlib.Core.List.{List, [], _∷_}
@@ -32,7 +32,7 @@ known number = leb number (lastKind true)
 unfoldable pub kindOf : ℕ → Kind
 kindOf number = getD kinds number timePasses
 
--- refusal 9: kinds 2, 3, 5 need value 0; 6 needs 0 or 1
+-- refusal 9: kinds 2, 3, 5 need value 0; 6 needs 0 to 3
 abbrev pub allowed : Kind → ℕ → Bool
 allowed instructionWrite value = true
 allowed dataWrite value = true
@@ -40,7 +40,7 @@ allowed statusRead value = eqb value 0
 allowed dataRead value = eqb value 0
 allowed eightBits value = true
 allowed chipSelectLow value = eqb value 0
-allowed reset value = leb value 1
+allowed reset value = leb value 3
 allowed timePasses value = true
 
 -- whether a reply is shown for it

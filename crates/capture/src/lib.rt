@@ -56,7 +56,7 @@ fn allowed(kind: u8, value: u8) -> bool
 {
     match kind {
         2 | 3 | 5 => value == 0,
-        6 => value <= 1,
+        6 => value <= 3,
         _ => true,
     }
 }

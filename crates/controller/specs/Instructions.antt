@@ -5,6 +5,7 @@ use mathlib.Core.List.{List}
 use lib.ListN.{getD, set, replicate}
 use Rattle.base.specs.Choice.{if_then_else_}
 use Rattle.base.specs.Bits.{bits5-0, bits3-0, bits1-0}
+use Rattle.events.specs.declared.Numbering.{Numbering}
 use Rattle.table.specs.declared.Target.{Target}
 use Rattle.table.specs.declared.Target.the-variants.{Text, Glyph, Graphic}
 use Rattle.table.specs.declared.Modes.{Modes}
@@ -68,16 +69,27 @@ graphicAddressed (Row y) p a = pointed Graphic (bits3-0 a) y
 abbrev pub stepped : Bool → ℕ → ℕ
 stepped right k = if right then (k + 1) % 64 else (k + 63) % 64
 
+-- the view with one part put in
+abbrev pub withScroll : ℕ → View → View
+withScroll rows v = record { scroll = rows; shift = v .shift; reversed = v .reversed; numbering = v .numbering }
+
+abbrev pub withShift : ℕ → View → View
+withShift cells v = record { scroll = v .scroll; shift = cells; reversed = v .reversed; numbering = v .numbering }
+
+abbrev pub withReversed : List Bool → View → View
+withReversed lines v = record { scroll = v .scroll; shift = v .shift; reversed = lines; numbering = v .numbering }
+
+-- no instruction puts in this one; statements do
+abbrev pub withNumbering : Numbering → View → View
+withNumbering n v = record { scroll = v .scroll; shift = v .shift; reversed = v .reversed; numbering = n }
+
 -- display left adds 1 to the shift modulo 16, right subtracts 1
 abbrev pub displayMoved : Bool → View → View
-displayMoved right v =
-    record { scroll = v .scroll; shift = if right then (v .shift + 15) % 16 else (v .shift + 1) % 16; reversed = v .reversed }
+displayMoved right v = withShift (if right then (v .shift + 15) % 16 else (v .shift + 1) % 16) v
 
 -- home: target text, counter 0, shift 0
 abbrev pub home : Control → Control
-home c =
-    withView (record { scroll = c .view .scroll; shift = 0; reversed = c .view .reversed })
-    (withPlace (pointed Text 0 (c .place .row)) c)
+home c = withView (withShift 0 (c .view)) (withPlace (pointed Text 0 (c .place .row)) c)
 
 -- function set: bit 4 DL, bit 2 RE, bit 1 G (RE = 1 only); if bit 2 differs from RE, only RE changes
 abbrev pub setFunction : Function → Bool → Bool → Bool → Function
@@ -91,11 +103,7 @@ setFunction f dl re g = by (f .re) re
 
 -- the reverse of line bits 1..0 is toggled
 abbrev pub reverseToggled : ℕ → View → View
-reverseToggled b v =
-    record { scroll = v .scroll; shift = v .shift; reversed = set (v .reversed) (bits1-0 b) (not (getD (v .reversed) (bits1-0 b) false)) }
-
-abbrev pub scrolled : ℕ → View → View
-scrolled rows v = record { scroll = rows; shift = v .shift; reversed = v .reversed }
+reverseToggled b v = withReversed (set (v .reversed) (bits1-0 b) (not (getD (v .reversed) (bits1-0 b) false))) v
 
 -- the table's entries, one by one
 unfoldable pub obeyed : Control → Instruction → Control
@@ -112,7 +120,7 @@ obeyed c (TextAddress a) = withPlace (pointed Text a (c .place .row)) (begun c)
 obeyed c Standby = withStandby true (begun c)
 obeyed c (SetSr sr) = withSr sr (begun c)
 obeyed c (ToggleReverse b) = withView (reverseToggled b (c .view)) (begun c)
-obeyed c (Scroll rows) = withView (scrolled rows (c .view)) (begun c)
+obeyed c (Scroll rows) = withView (withScroll rows (c .view)) (begun c)
 obeyed c (GraphicAddress a) = withPlace (graphicAddressed (c .place .waiting) (c .place) a) (begun c)
 
 -- clear: text bytes 20h

@@ -1,4 +1,4 @@
--- Document 01, "Memories and flags": everything but the memories and the link. What it is when fresh, and the ranges it keeps to.
+-- Document 01, "Memories and flags", and requests K1 and K3: everything but the memories and the link. What it is when fresh, and the ranges it keeps to.
 use Prim.Native.Nat.{ℕ, _<_, _≤_}
 use Prim.{Unit}
 use mathlib.Core.Bool.{Bool, true, false}
@@ -7,6 +7,8 @@ use lib.ListN.{length, replicate}
 use Rattle.base.specs.Choice.{if_then_else_}
 use Rattle.events.specs.declared.Made.{Made}
 use Rattle.events.specs.declared.Pin.{Pin}
+use Rattle.events.specs.declared.Numbering.{Numbering}
+use Rattle.events.specs.declared.Numbering.the-variants.{By96, By160}
 use Rattle.table.specs.declared.Target.{Target}
 use Rattle.table.specs.declared.Target.the-variants.{Text, Glyph, Graphic}
 use Rattle.controller.specs.declared.Waiting.{Waiting}
@@ -20,9 +22,9 @@ use Rattle.controller.specs.Memories.{Memories}
 abbrev pub freshPlace : Place
 freshPlace = record { target = Text; counter = 0; row = 0; low = false; dummy = false; waiting = Nothing }
 
--- scroll 0, shift 0, no line reversed
-abbrev pub freshView : View
-freshView = record { scroll = 0; shift = 0; reversed = replicate 4 false }
+-- scroll 0, shift 0, no line reversed; the numbering as it is made
+abbrev pub freshView : Numbering → View
+freshView numbering = record { scroll = 0; shift = 0; reversed = replicate 4 false; numbering = numbering }
 
 -- I/D 1, S 0; display, cursor, blink, RE, SR, G 0; DL 1; no standby; not busy, with or without time as it is made
 unfoldable pub freshControl : Made → Control
@@ -33,14 +35,18 @@ freshControl made =
       shown = record { display = false; cursor = false; blink = false };
       function = record { dl = true; re = false; g = false };
       sr = false;
-      view = freshView;
+      view = freshView (made .numbering);
       standby = false;
       time = record { timed = made .time; remaining = 0 };
     }
 
--- reset takes the interface pin: what the state keeps, and the pin, are what the next state is made with
+-- reset takes the interface pin and chooses the numbering: these, and what the state keeps, are what the next state is made with
 abbrev pub remade : Control → Pin → Made
-remade c pin = record { parallel = pin .parallel; time = c .time .timed }
+remade c pin = record { parallel = pin .parallel; time = c .time .timed; numbering = pin .numbering }
+
+-- a bit that chooses the numbering: 0 the old one, 1 the new
+abbrev pub numberingOf : Bool → Numbering
+numberingOf bit = if bit then By160 else By96
 
 -- the counter has 6 bits for text and glyph memory, 4 for graphic memory
 abbrev pub limit : Target → ℕ

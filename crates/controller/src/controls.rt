@@ -8,13 +8,24 @@ use crate::Time;
 use crate::View;
 use crate::Waiting;
 use events::Made;
+use events::Numbering;
 use events::Pin;
 use table::Modes;
 use table::Target;
 ghost use mathlib.Core.Path.{_≡_};
 ghost use Prim.Native.Nat.{_<_};
-ghost use Rattle.controller.specs.State.{freshControl, remade};
+ghost use Rattle.controller.specs.State.{numberingOf, freshControl, remade};
 ghost use Rattle.controller.specs.Instructions.{withTime, stepped, displayMoved, modes};
+
+// The numbering that a bit chooses.
+pub fn numbering(bit: bool) -> Numbering
+    ensures { λ r. ⌜ r ≡ numberingOf bit ⌝ }
+{
+    if bit {
+        return Numbering::By160;
+    }
+    Numbering::By96
+}
 
 // The counter one to the right or to the left, modulo 64.
 pub fn stepped(right: bool, counter: u8) -> u8
@@ -48,6 +59,7 @@ impl Control {
     pub fn fresh(made: Made) -> Control
         ensures { λ r. ⌜ r ≡ freshControl made ⌝ }
     {
+        let numbering = made.numbering;
         Control {
             place: Place {
                 target: Target::Text,
@@ -73,6 +85,7 @@ impl Control {
                 scroll: 0,
                 shift: 0,
                 reversed: [false; 4],
+                numbering,
             },
             standby: false,
             time: Time {
@@ -82,13 +95,15 @@ impl Control {
         }
     }
 
-    // What reset makes the next state with: what this one keeps, and the pin.
+    // What reset makes the next state with: what this one keeps, the pin and the numbering.
     pub fn remade(self, pin: Pin) -> Made
         ensures { λ r. ⌜ r ≡ remade self pin ⌝ }
     {
+        let numbering = pin.numbering;
         Made {
             parallel: pin.parallel,
             time: self.time.timed,
+            numbering,
         }
     }
 

@@ -1,6 +1,7 @@
 // The controller: all of the panel's state but the link, after document 01's "Memories and flags", and what data transfers do to it.
 // The definitions of what instructions do stand here too; the code that does it is the crate `instructions`.
 // The three memories are arrays that the caller lends; everything else is `Control`, which goes in and comes back by value.
+use events::Numbering;
 use table::Target;
 
 pub mod controls;
@@ -46,11 +47,12 @@ pub struct Function {
     pub g: bool,
 }
 
-// How the glass looks at the memories.
+// How the glass looks at the memories, and at the full font.
 pub struct View {
     pub scroll: u8,
     pub shift: u8,
     pub reversed: [bool; 4],
+    pub numbering: Numbering,
 }
 
 // Whether the panel has time, and for how many microseconds it is busy yet.

@@ -32,7 +32,7 @@ use Rattle.controller.specs.declared.Control.{Control}
 use Rattle.deeds.specs.declared.Done.{Done}
 use Rattle.controller.specs.Memories.{Memories, memories, freshMemories}
 use Rattle.controller.specs.State.{freshControl, remade, limit, RowInRange, longest, InRange, AllInRange}
-use Rattle.controller.specs.Instructions.{withPlace, withEntry, withView, withTime, withWaiting, pointed, begun, home, stepped, displayMoved, graphicAddressed, reverseToggled, scrolled, obeyed, cleared, modes}
+use Rattle.controller.specs.Instructions.{withPlace, withEntry, withView, withTime, withWaiting, pointed, begun, home, stepped, displayMoved, graphicAddressed, withScroll, withShift, reverseToggled, obeyed, cleared, modes}
 use Rattle.controller.specs.Data.{stored, nextCounter, moved, shifts, movedOn, dummyRead}
 use Rattle.time.specs.Time.{lost, instructionCost, cost, charged, elapsed}
 use Rattle.deeds.specs.Transfers.{Acted, executed, written, readOut, statusRead, carriedOut, atCost, onTime, performed}
@@ -109,13 +109,13 @@ shifted-in right v r =
       lines = r .lines;
     }
 
-home-in : (v : View) → ViewIn v → ViewIn (record { scroll = v .scroll; shift = 0; reversed = v .reversed })
+home-in : (v : View) → ViewIn v → ViewIn (withShift 0 v)
 home-in v r = record { scroll = r .scroll; shift = omega arith; lines = r .lines }
 
 toggled-in : (line : ℕ) (v : View) → ViewIn v → ViewIn (reverseToggled line v)
 toggled-in line v r = record { scroll = r .scroll; shift = r .shift; lines = simp length-set (r .lines) }
 
-scrolled-in : (rows : ℕ) (v : View) → rows < 64 → ViewIn v → ViewIn (scrolled rows v)
+scrolled-in : (rows : ℕ) (v : View) → rows < 64 → ViewIn v → ViewIn (withScroll rows v)
 scrolled-in rows v h r = record { scroll = h; shift = r .shift; lines = r .lines }
 
 -- the table's entries, row by row; what an entry changes of place and view, it changes within their ranges

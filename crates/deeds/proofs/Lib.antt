@@ -1,3 +1,4 @@
 pub mod Kept
 pub mod Leaves
+pub mod Beside
 pub mod Untimed

@@ -8,8 +8,6 @@ use lib.Dec.{ltb}
 use Rattle.base.specs.Choice.{if_then_else_}
 use Rattle.base.proofs.Choice.{either}
 use Rattle.table.specs.Table.{said}
-use Rattle.table.specs.declared.Instruction.{Instruction}
-use Rattle.table.specs.declared.Instruction.the-variants.{Ignored, Clear, Home, EntryMode, Display, MoveCursor, MoveDisplay, FunctionSet, GlyphAddress, TextAddress, Standby, SetSr, ToggleReverse, Scroll, GraphicAddress}
 use Rattle.events.specs.declared.Transfer.{Transfer}
 use Rattle.events.specs.declared.Transfer.the-variants.{Instruct, Write, Status, Read}
 use Rattle.events.specs.declared.Deed.{Deed}
@@ -18,31 +16,14 @@ use Rattle.controller.specs.declared.Time.{Time}
 use Rattle.controller.specs.declared.Control.{Control}
 use Rattle.controller.specs.Memories.{Memories}
 use Rattle.controller.specs.State.{freshControl, longest, InRange}
-use Rattle.controller.specs.Instructions.{withTime, obeyed, modes}
+use Rattle.controller.specs.Instructions.{withTime, modes}
 use Rattle.controller.specs.Data.{movedOn}
 use Rattle.deeds.specs.declared.Done.{Done}
 use Rattle.time.specs.Time.{busy, lost, cost, charged}
+use Rattle.deeds.proofs.Beside.{obeyed-time}
 use Rattle.deeds.specs.Transfers.{Acted, acted, executed, written, readOut, statusRead, carriedOut, nothingDone, atCost, carriedOutAtCost, onTime, performed}
 
 -- what is carried out leaves the time
-
-obeyed-time : (c : Control) (i : Instruction) → obeyed c i .time ≡ c .time
-unfolding obeyed
-obeyed-time c Ignored = refl
-obeyed-time c Clear = refl
-obeyed-time c Home = refl
-obeyed-time c (EntryMode id s) = refl
-obeyed-time c (Display display cursor blink) = refl
-obeyed-time c (MoveCursor right) = refl
-obeyed-time c (MoveDisplay right) = refl
-obeyed-time c (FunctionSet dl re g) = refl
-obeyed-time c (GlyphAddress a) = refl
-obeyed-time c (TextAddress a) = refl
-obeyed-time c Standby = refl
-obeyed-time c (SetSr sr) = refl
-obeyed-time c (ToggleReverse line) = refl
-obeyed-time c (Scroll rows) = refl
-obeyed-time c (GraphicAddress a) = refl
 
 pub carriedOut-time : (m : Memories) (c : Control) (t : Transfer) → carriedOut m c t .done .control .time ≡ c .time
 unfolding carriedOut executed written readOut statusRead movedOn

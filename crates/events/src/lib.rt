@@ -9,15 +9,23 @@ pub enum Transfer {
     Read,
 }
 
-// What a panel is made with: its link, and whether it has time.
+// How codes of two bytes are numbered in the full font: 96 to a lead, or 160.
+pub enum Numbering {
+    By96,
+    By160,
+}
+
+// What a panel is made with: its link, whether it has time, and its numbering.
 pub struct Made {
     pub parallel: bool,
     pub time: bool,
+    pub numbering: Numbering,
 }
 
-// The interface pin, which reset takes.
+// What reset is given: the interface pin, and the numbering that it chooses.
 pub struct Pin {
     pub parallel: bool,
+    pub numbering: Numbering,
 }
 
 // What comes to the panel: a transfer of the parallel link, a bit of the serial one with chip select high, chip select low, reset, or

@@ -5,12 +5,13 @@ use lib.Dec.{eqb, leb}
 use mathlib.Core.Bool.{_&&_}
 use borrow.Author.Tests.{leb-true}
 use Rattle.base.proofs.Choice.{either, either-told}
+use Rattle.events.specs.declared.Numbering.{Numbering}
 use Rattle.controller.specs.Glass.{imageOf}
 use Rattle.controller.specs.declared.Image as image
-use Rattle.glyph.specs.declared.Code.{Code}
-use Rattle.glyph.specs.declared.Code.the-variants.{Unnumbered, Number}
+use Rattle.numbering.specs.declared.Code.{Code}
+use Rattle.numbering.specs.declared.Code.the-variants.{Unnumbered, Number}
 use Rattle.glyph.specs.declared.Content.{Content}
-use Rattle.glyph.specs.Numbering.{numberOf}
+use Rattle.numbering.specs.Numbering.{numberOf}
 use Rattle.glyph.specs.Lookup.{fullOf, fontOf, imageOr, contentOf}
 use Rattle.glyph.specs.Tiles.{Inside}
 
@@ -20,11 +21,11 @@ full-inside Unnumbered length = tt
 full-inside (Number i) length =
     either-told (λ (c : Content). Inside c length) (leb (32 * i + 32) length) (λ e. leb-true (32 * i + 32) length e) (λ e. tt)
 
-font-inside : (high low length : ℕ) → Inside (fontOf high low length) length
+font-inside : (n : Numbering) (high low length : ℕ) → Inside (fontOf n high low length) length
 unfolding fontOf
-font-inside high low length = either (λ (c : Content). Inside c length) (leb 0xA1 high) (full-inside (numberOf high low) length) tt
+font-inside n high low length = either (λ (c : Content). Inside c length) (leb 0xA1 high) (full-inside (numberOf n high low) length) tt
 
-pub content-inside : (high low length : ℕ) → Inside (contentOf high low length) length
+pub content-inside : (n : Numbering) (high low length : ℕ) → Inside (contentOf n high low length) length
 unfolding contentOf imageOf
-content-inside high low length =
-    either (λ (i : image.Image). Inside (imageOr i (fontOf high low length)) length) (eqb high 0x00 && leb low 0x0F) (omega arith) (font-inside high low length)
+content-inside n high low length =
+    either (λ (i : image.Image). Inside (imageOr i (fontOf n high low length)) length) (eqb high 0x00 && leb low 0x0F) (omega arith) (font-inside n high low length)

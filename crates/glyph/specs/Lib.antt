@@ -1,4 +1,3 @@
-pub mod Numbering
 pub mod Lookup
 pub mod Dots
 pub mod Tiles

@@ -1,17 +1,10 @@
-// What a text word shows, after document 01's "The picture", in three layers that know nothing of one another's rules:
-// a code's number in the full font; from it, and from the length of that font, what the cell shows; and from that its dots, a byte or a
+// What a text word shows, after document 01's "The picture", in layers that know nothing of one another's rules: crate `numbering` gives a
+// code's number in the full font; here, from it and from the length of that font, what the cell shows; and from that its dots, a byte or a
 // whole tile.
 
 pub mod dots;
 pub mod lookup;
-pub mod numbering;
 pub mod tile;
-
-// The number that a code of two bytes has in the full font, or none.
-pub enum Code {
-    Unnumbered,
-    Number(u16),
-}
 
 // What a cell shows.
 pub enum Content {

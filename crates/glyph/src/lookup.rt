@@ -1,9 +1,10 @@
 // What a cell shows: an image, a full glyph, two halves, or nothing.
-use crate::Code;
 use crate::Content;
-use crate::numbering::number;
 use controller::Image;
 use controller::named::image;
+use events::Numbering;
+use numbering::Code;
+use numbering::number;
 ghost use mathlib.Core.Path.{_≡_};
 ghost use Rattle.glyph.specs.Lookup.{fullOf, fontOf, contentOf};
 
@@ -24,22 +25,22 @@ fn full_glyph(code: Code, length: usize) -> Content
 }
 
 // A word that shows no image: by the full font from A1h on, else each byte by itself.
-fn by_font(high: u8, low: u8, length: usize) -> Content
-    ensures { λ r. ⌜ r ≡ fontOf high low length ⌝ }
+fn by_font(numbering: Numbering, high: u8, low: u8, length: usize) -> Content
+    ensures { λ r. ⌜ r ≡ fontOf numbering high low length ⌝ }
 {
     if high >= 0xA1 {
-        return full_glyph(number(high, low), length);
+        return full_glyph(number(numbering, high, low), length);
     }
     Content::Halves { high, low }
 }
 
 // What the cell of a text word shows, with a full font of `length` bytes.
-pub fn content(high: u8, low: u8, length: usize) -> Content
-    ensures { λ r. ⌜ r ≡ contentOf high low length ⌝ }
+pub fn content(numbering: Numbering, high: u8, low: u8, length: usize) -> Content
+    ensures { λ r. ⌜ r ≡ contentOf numbering high low length ⌝ }
 {
     let image = image(high, low);
     match image {
         Image::Number(i) => Content::Image(i),
-        Image::Nothing => by_font(high, low, length),
+        Image::Nothing => by_font(numbering, high, low, length),
     }
 }

@@ -109,7 +109,7 @@ pub fn select_low(
     )
 }
 
-// Reset with the interface pin, on either link.
+// Reset with the interface pin and the numbering that it chooses, on either link.
 pub fn reset(
     text: &mut [u8; 128],
     glyph: &mut [u8; 128],

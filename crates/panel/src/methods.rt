@@ -124,7 +124,7 @@ impl Panel {
         self.call(Event::SelectLow, frame, half, full, phase)
     }
 
-    // Reset with the interface pin, on either link.
+    // Reset with the interface pin and the numbering that it chooses, on either link.
     pub fn reset(self, pin: Pin, frame: &mut [u8], half: &[u8], full: &[u8], phase: bool) -> Outcome
         requires { ⌜ Valid (stateOf self) ⌝ }
         ensures { λ r. ⌜ handed r (now (frame .exit)) ≡ called (seen half full phase) (stateOf self) (now (frame .entry)) (event.Reset pin) ⌝ }

@@ -8,6 +8,7 @@ use lib.ListN.{length, getD}
 use lib.Dec.{eqb}
 use borrow.Author.Tests.{ne-eqb}
 use Rattle.base.specs.Choice.{if_then_else_}
+use Rattle.events.specs.declared.Numbering.{Numbering}
 use Rattle.controller.specs.declared.Cell.{Cell}
 use Rattle.controller.specs.declared.Cell.the-variants.{Nowhere, Word}
 use Rattle.controller.specs.declared.View.{View}
@@ -27,9 +28,9 @@ unfolding shownWord shownRow
 shown-word-lt v row cell = omega arith
 
 -- what a word shows lies inside the full font
-pub word-inside : (size : ℕ) (text : List ℕ) (word : ℕ) → Inside (wordContent size text word) size
+pub word-inside : (n : Numbering) (size : ℕ) (text : List ℕ) (word : ℕ) → Inside (wordContent n size text word) size
 unfolding wordContent
-word-inside size text word = content-inside _ _ size
+word-inside n size text word = content-inside n _ _ size
 
 -- 64 is the word of no cell
 pub counter-here : (cell : Cell) (word : ℕ) → word < 64 → eqb word (counterWord cell) ≡ atCounter cell word
@@ -73,7 +74,7 @@ module _ (look : Look) (row column : ℕ) where
   -- over the dots of the word that is shown
   pub over-shown : (e : Fonts) (m : Memories) (word y dots r : ℕ) (shown : Content)
       → word ≡ shownWord (look .view) row (column / 2)
-      → shown ≡ wordContent (length (e .full)) (m .text) word
+      → shown ≡ wordContent (look .view .numbering) (length (e .full)) (m .text) word
       → y ≡ shownRow (look .view) row
       → dots ≡ dotsOf (e .half) (e .full) (m .glyph) shown (y % 16) (right column)
       → r ≡ byteOver dots (m .graphic) look row column

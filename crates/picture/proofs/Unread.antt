@@ -42,7 +42,7 @@ module _ (e : Fonts) (m : Memories) (v : View) (row column : ℕ) where
       → cellByte e (memories (m .text) (set (m .glyph) (wordPlace word low) b) (m .graphic)) v row column ≡ cellByte e m v row column
   unfolding cellByte wordContent showsGlyph wordImage
   glyph-unshown word low b n =
-      glyph-unread (e .half) (e .full) (shownRow v row % 16) (right column) (m .glyph) _ _ (length (e .full)) (wordPlace word low) b
+      glyph-unread (e .half) (e .full) (v .numbering) (shownRow v row % 16) (right column) (m .glyph) _ _ (length (e .full)) (wordPlace word low) b
       (λ i shown z. let q = same-place (imageRow i (shownRow v row % 16)) word (right column) low z in
       let w : 16 * i + shownRow v row % 16 ≡ word = q .0 in
       let h : column % 2 ≡ half low = sym (half-right column) ∙ q .1 in
@@ -68,5 +68,5 @@ module _ (e : Fonts) (m : Memories) (v : View) (row column : ℕ) where
       let w = and-both (isImage i (word / 16)) (eqb (column % 2) (half low)) (q .1) in
       let y : shownRow v row % 16 ≡ word % 16 = eqb-true _ _ (q .0) in
       let s : half (right column) ≡ half low = half-right column ∙ eqb-true _ _ (w .1) in
-      image-shown (e .half) (e .full) (m .glyph) _ _ (length (e .full)) (shownRow v row % 16) (right column) (word / 16) (wordPlace word low) (w .0)
+      image-shown (e .half) (e .full) (m .glyph) (v .numbering) _ _ (length (e .full)) (shownRow v row % 16) (right column) (word / 16) (wordPlace word low) (w .0)
       (let p : 2 * (16 * (word / 16) + shownRow v row % 16) + half (right column) ≡ 2 * word + half low = omega arith in p)

@@ -9,6 +9,7 @@ use lib.Bits.{bitXor}
 use denote.Ref.{now}
 use Rattle.base.specs.Choice.{if_then_else_}
 use Rattle.base.specs.Layout.{Layout, wholeOn}
+use Rattle.events.specs.declared.Numbering.{Numbering}
 use Rattle.controller.specs.declared.View.{View}
 use Rattle.controller.specs.declared.Cell.{Cell}
 use Rattle.controller.specs.declared.Cell.the-variants.{Nowhere, Word}
@@ -55,14 +56,14 @@ lookOf phase c =
 abbrev pub right : ℕ → Bool
 right column = eqb (column % 2) 1
 
--- what a text word shows, with a full font of `size` bytes
-unfoldable pub wordContent : ℕ → List ℕ → ℕ → Content
-wordContent size text word = contentOf (getD text (wordPlace word false) 0) (getD text (wordPlace word true) 0) size
+-- what a text word shows, by a numbering and with a full font of `size` bytes
+unfoldable pub wordContent : Numbering → ℕ → List ℕ → ℕ → Content
+wordContent n size text word = contentOf n (getD text (wordPlace word false) 0) (getD text (wordPlace word true) 0) size
 
--- cell k shows its text word, glyph row s mod 16
+-- cell k shows its text word, by the view's numbering, glyph row s mod 16
 unfoldable pub cellByte : Fonts → Memories → View → ℕ → ℕ → ℕ
 cellByte e m v row column =
-    dotsOf (e .half) (e .full) (m .glyph) (wordContent (length (e .full)) (m .text) (shownWord v row (column / 2)))
+    dotsOf (e .half) (e .full) (m .glyph) (wordContent (v .numbering) (length (e .full)) (m .text) (shownWord v row (column / 2)))
     (shownRow v row % 16) (right column)
 
 -- graphic row s, unshifted

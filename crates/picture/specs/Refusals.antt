@@ -1,4 +1,4 @@
--- Document 01, "Refusal numbers": 1 to 3, of the lengths that a call is lent; and drawing afresh, which has no others.
+-- Document 01, "Refusal numbers", and request K3: 1 to 3, of the lengths that a call is lent; and drawing afresh, which has no others.
 use Prim.Native.Nat.{ℕ, _%_}
 use mathlib.Core.Bool.{not, _||_}
 use mathlib.Core.List.{List}
@@ -10,12 +10,12 @@ use Rattle.controller.specs.declared.Control.{Control}
 use Rattle.controller.specs.Memories.{Memories}
 use Rattle.picture.specs.Picture.{Seen, pictured}
 
--- 1: frame not 1,024 bytes; 2: half font not 2,048 bytes; 3: full font not a multiple of 32, or over 267,264; 0: accepted
+-- 1: frame not 1,024 bytes; 2: half font not 2,048 bytes; 3: full font not a multiple of 32, or over 281,600; 0: accepted
 unfoldable pub refusalOf : ℕ → ℕ → ℕ → ℕ
 refusalOf frame half full =
     if not (eqb frame 1024) then 1
     else if not (eqb half 2048) then 2
-    else if not (eqb (full % 32) 0) || ltb 267264 full then 3
+    else if not (eqb (full % 32) 0) || ltb 281600 full then 3
     else 0
 
 -- the number of what a call is lent

@@ -8,6 +8,7 @@ use lib.Dec.{eqb, ltb}
 use Rattle.base.specs.Choice.{if_then_else_}
 use Rattle.base.specs.Painting.{painted, everywhere, between}
 use Rattle.base.specs.Layout.{rows}
+use Rattle.events.specs.declared.Numbering.{Numbering}
 use Rattle.controller.specs.declared.Cell.{Cell}
 use Rattle.controller.specs.declared.Cell.the-variants.{Nowhere, Word}
 use Rattle.controller.specs.Glass.{shownRow}
@@ -22,8 +23,8 @@ counterWord Nowhere = 64
 counterWord (Word counter) = counter
 
 -- byte j of the dots of a text word
-abbrev pub wordDots : Fonts → List ℕ → List ℕ → ℕ → ℕ → ℕ
-wordDots e text glyph word j = tileDots (e .half) (e .full) glyph (wordContent (length (e .full)) text word) j
+abbrev pub wordDots : Fonts → List ℕ → List ℕ → Numbering → ℕ → ℕ → ℕ
+wordDots e text glyph n word j = tileDots (e .half) (e .full) glyph (wordContent n (length (e .full)) text word) j
 
 -- the word of a line that a cell shows
 abbrev pub lineWord : ℕ → ℕ → ℕ → ℕ
@@ -34,7 +35,7 @@ unfoldable pub tileByte : Fonts → List ℕ → List ℕ → Look → ℕ → �
 tileByte e text glyph look word j =
     inverted (getD (look .view .reversed) (word / 16) false)
     (inverted (atCounter (look .counter) word && look .blink)
-    (filled (atCounter (look .counter) word && (look .cursor && eqb (j / 2) 15)) (wordDots e text glyph word j)))
+    (filled (atCounter (look .counter) word && (look .cursor && eqb (j / 2) 15)) (wordDots e text glyph (look .view .numbering) word j)))
 
 -- where the tile of the counter's word begins in its line
 abbrev pub counterTile : ℕ → ℕ → ℕ

@@ -63,9 +63,11 @@ pub fn byte_at(
     requires { ⌜ (row < 32) × (column < 32) × (length (now half) ≡ 2048) ⌝ }
     ensures { λ r. ⌜ r ≡ byteAt (fonts half full) (before text glyph graphic) look row column ⌝ }
 {
-    let word = shown_word(look.view, row, column / 2);
-    let shown = word_content(text, word, full.len());
-    let y = shown_row(look.view, row) % 16;
+    let view = look.view;
+    let numbering = view.numbering;
+    let word = shown_word(view, row, column / 2);
+    let shown = word_content(text, numbering, word, full.len());
+    let y = shown_row(view, row) % 16;
     let dots = dot_byte(shown, y as usize, column % 2 == 1, glyph, half, full);
     byte_over(graphic, look, row, column, dots)
 }

@@ -15,7 +15,7 @@ pub fn refusal(frame: usize, half: usize, full: usize) -> u8
     if full % 32 != 0 {
         return 3;
     }
-    if full > 267264 {
+    if full > 281600 {
         return 3;
     }
     0

@@ -1,5 +1,6 @@
-// What the glass shows where: the memory row, the text word, and what of the fonts that word shows.
+// What the glass shows where: the memory row, the text word, and what of the fonts that word shows, by a numbering.
 use controller::View;
+use events::Numbering;
 use glyph::Content;
 use glyph::lookup::content;
 ghost use mathlib.Core.Path.{_≡_};
@@ -26,10 +27,10 @@ pub(crate) fn shown_word(view: View, row: u32, cell: u32) -> u32
     16 * (s / 16) + (cell + view.shift as u32) % 16
 }
 
-pub fn word_content(text: &[u8; 128], word: u32, length: usize) -> Content
+pub fn word_content(text: &[u8; 128], numbering: Numbering, word: u32, length: usize) -> Content
     requires { ⌜ word < 64 ⌝ }
-    ensures { λ r. ⌜ r ≡ wordContent length (now (text .entry)) word ⌝ }
+    ensures { λ r. ⌜ r ≡ wordContent numbering length (now (text .entry)) word ⌝ }
 {
     let at = 2 * (word as usize);
-    content(text[at], text[at + 1], length)
+    content(numbering, text[at], text[at + 1], length)
 }

@@ -1,16 +1,23 @@
--- Document 01, "Captures", and request K1: what a record asks of a panel, and what that leaves.
+-- Document 01, "Captures", and requests K1 and K3: what a record asks of a panel, and what that leaves.
 use Prim.Native.Nat.{ℕ, _+_}
 use mathlib.Core.List.{List, [], _∷_, map}
 use lib.Dec.{eqb}
+use Rattle.base.specs.Bits.{bit}
 use Rattle.base.specs.Choice.{if_then_else_}
+use Rattle.events.specs.declared.Pin.{Pin}
 use Rattle.events.specs.declared.Event.{Event}
 use Rattle.events.specs.declared.Event.the-variants.{Transfer, Bit, SelectLow, Reset, Pass}
 use Rattle.events.specs.declared.Transfer.the-variants.{Instruct, Write, Status, Read}
+use Rattle.controller.specs.State.{numberingOf}
 use Rattle.sender.specs.Sender.{highestFirst}
 use Rattle.picture.specs.Picture.{Seen}
 use Rattle.capture.specs.Kinds.{Kind, instructionWrite, dataWrite, statusRead, dataRead, eightBits, chipSelectLow, reset, timePasses, kindOf}
 use Rattle.calls.specs.State.{State}
 use Rattle.calls.specs.Calls.{Called, refused, called}
+
+-- reset's value: bit 0 is the interface pin, bit 1 chooses the numbering
+abbrev pub pinOf : ℕ → Pin
+pinOf value = record { parallel = bit 0 value; numbering = numberingOf (bit 1 value) }
 
 -- the events of each kind with its value; serial bits highest first
 abbrev pub asks : Kind → ℕ → List Event
@@ -20,7 +27,7 @@ asks statusRead value = Transfer Status ∷ []
 asks dataRead value = Transfer Read ∷ []
 asks eightBits value = map Bit (highestFirst value)
 asks chipSelectLow value = SelectLow ∷ []
-asks reset value = Reset (record { parallel = eqb value 1 }) ∷ []
+asks reset value = Reset (pinOf value) ∷ []
 asks timePasses value = Pass value ∷ []
 
 -- called in turn, behind a call that replied so: number 0, the last reply, the sum of the counts

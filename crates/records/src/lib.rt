@@ -1,4 +1,5 @@
 // One record of a capture, carried out on a panel.
+use controller::controls::numbering;
 use events::Event;
 use events::Pin;
 use events::Transfer;
@@ -9,7 +10,7 @@ ghost use mathlib.Core.Path.{_≡_};
 ghost use Rattle.picture.specs.Picture.{seen};
 ghost use Rattle.calls.specs.State.{Valid};
 ghost use Rattle.panel.specs.Handed.{stateOf, handed};
-ghost use Rattle.records.specs.Records.{asks, calledInTurn, recordCalled};
+ghost use Rattle.records.specs.Records.{pinOf, asks, calledInTurn, recordCalled};
 ghost use Rattle.capture.specs.Kinds.{kindOf, eightBits};
 
 // Eight bits of the serial link, highest first. On the other link the first is refused, and none is heard.
@@ -48,6 +49,17 @@ fn eight_bits(
     }
 }
 
+// A reset's value: bit 0 is the interface pin, bit 1 chooses the numbering.
+fn pin_of(value: u8) -> Pin
+    ensures { λ r. ⌜ r ≡ pinOf value ⌝ }
+{
+    let numbering = numbering(value / 2 % 2 == 1);
+    Pin {
+        parallel: value / 1 % 2 == 1,
+        numbering,
+    }
+}
+
 // The one event of a record of any other kind than 4.
 fn event_of(kind: u8, value: u8) -> Event
     requires { ⌜ (kind ≡ 4 → ⊥) ⌝ }
@@ -59,9 +71,7 @@ fn event_of(kind: u8, value: u8) -> Event
         2 => Event::Transfer(Transfer::Status),
         3 => Event::Transfer(Transfer::Read),
         5 => Event::SelectLow,
-        6 => Event::Reset(Pin {
-            parallel: value == 1,
-        }),
+        6 => Event::Reset(pin_of(value)),
         _ => Event::Pass(value),
     }
 }

@@ -2,6 +2,7 @@
 // What is read and written is no matter of a contract; the lines are those of `playback`. What fails is said on standard
 // error, where it fails, and is never taken for the end of the capture.
 use events::Made;
+use events::Numbering;
 use libc::STDERR_FILENO;
 use libc::STDIN_FILENO;
 use libc::STDOUT_FILENO;
@@ -155,6 +156,7 @@ fn main() {
     let mut panel = Panel::fresh(Made {
         parallel: true,
         time: asked.time,
+        numbering: Numbering::By96,
     });
     let mut place: usize = 0;
     loop {

@@ -108,7 +108,7 @@ pub(crate) fn half_font(at: usize, half: &mut [u8]) -> Loaded
 }
 
 // Reads the full font that an argument names; it is empty where none does.
-pub(crate) fn full_font(at: usize, full: &mut [u8; 267265]) -> Loaded
+pub(crate) fn full_font(at: usize, full: &mut [u8; 281601]) -> Loaded
     ensures { λ r. ⌜ Counts (r .count) (now (full .exit)) ⌝ }
 {
     if at == 0 {
@@ -127,9 +127,9 @@ pub(crate) fn full_font(at: usize, full: &mut [u8; 267265]) -> Loaded
     if count % 32 != 0 {
         wrong_length(
             &name[..n],
-            b"a full font is a multiple of 32 bytes, at most 267,264",
+            b"a full font is a multiple of 32 bytes, at most 281,600",
             count,
-            267265,
+            281601,
             3,
         );
         return Loaded { count, well: false };
@@ -137,9 +137,9 @@ pub(crate) fn full_font(at: usize, full: &mut [u8; 267265]) -> Loaded
     loaded
 }
 
-// Room for the longest full font and one byte more, which 267,265 bytes or more fill: no multiple of 32.
-pub(crate) fn full_buffer() -> [u8; 267265]
-    ensures { λ r. ⌜ 267265 ≡ length r ⌝ }
+// Room for the longest full font and one byte more, which 281,601 bytes or more fill: no multiple of 32.
+pub(crate) fn full_buffer() -> [u8; 281601]
+    ensures { λ r. ⌜ 281601 ≡ length r ⌝ }
 {
-    [0; 267265]
+    [0; 281601]
 }

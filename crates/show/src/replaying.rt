@@ -1,6 +1,7 @@
 // A capture of any length, replayed part by part.
 use crate::files::fill;
 use events::Made;
+use events::Numbering;
 use panel::Panel;
 ghost use Rattle.calls.specs.State.{Valid};
 ghost use Rattle.panel.specs.Handed.{stateOf};
@@ -74,6 +75,7 @@ pub(crate) fn replayed(
         panel: Panel::fresh(Made {
             parallel: true,
             time,
+            numbering: Numbering::By96,
         }),
         records: 0,
         number: 0,

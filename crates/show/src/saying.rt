@@ -82,7 +82,7 @@ pub(crate) fn usage(fd: i32) {
     );
     io::write_all(
         fd,
-        b"  --full FILE   the full font, a multiple of 32 bytes up to 267,264; else an empty one\n",
+        b"  --full FILE   the full font, a multiple of 32 bytes up to 281,600; else an empty one\n",
     );
     io::write_all(fd, b"  --phase 0|1   the blink phase; else 0\n");
     io::write_all(

@@ -21,28 +21,28 @@ laid n k before part rest h = rw (take-at before rest n h, drop-at before rest n
 
 -- five parts of these lengths
 five-laid : (out a b c d e : List ℕ)
-    → length out ≡ 2340 → length a ≡ 128 → length b ≡ 128 → length c ≡ 2048 → length d ≡ 26
-    → putMid 2330 10 (putMid 2304 26 (putMid 256 2048 (putMid 128 128 (putMid 0 128 out a) b) c) d) e ≡ a ++ (b ++ (c ++ (d ++ e)))
+    → length out ≡ 2341 → length a ≡ 128 → length b ≡ 128 → length c ≡ 2048 → length d ≡ 27
+    → putMid 2331 10 (putMid 2304 27 (putMid 256 2048 (putMid 128 128 (putMid 0 128 out a) b) c) d) e ≡ a ++ (b ++ (c ++ (d ++ e)))
 five-laid out a b c d e h ha hb hc hd =
     let r1 : List ℕ = drop 128 out in
     let r2 : List ℕ = drop 128 r1 in
     let r3 : List ℕ = drop 2048 r2 in
-    let r4 : List ℕ = drop 26 r3 in
+    let r4 : List ℕ = drop 27 r3 in
     let end : drop 10 r4 ≡ [] = drop-of-length-le r4 {i = 10} (simp length-drop (omega arith)) in
     rw (
       laid 0 128 [] a out refl,
       laid 128 128 a b r1 ha,
       laid 256 2048 (a ++ b) c r2 (simp length-append (omega arith)),
-      laid 2304 26 ((a ++ b) ++ c) d r3 (simp length-append (omega arith)),
-      laid 2330 10 (((a ++ b) ++ c) ++ d) e r4 (simp length-append (omega arith)),
+      laid 2304 27 ((a ++ b) ++ c) d r3 (simp length-append (omega arith)),
+      laid 2331 10 (((a ++ b) ++ c) ++ d) e r4 (simp length-append (omega arith)),
       end,
     ) (simp (append-nil, append-assoc))
 
 -- the five parts of a state
-pub state-laid : (out : List ℕ) (s : State) {a b c d e p l : List ℕ} → length out ≡ 2340
+pub state-laid : (out : List ℕ) (s : State) {a b c d e p l : List ℕ} → length out ≡ 2341
     → a ≡ s .memories .text → b ≡ s .memories .glyph → c ≡ s .memories .graphic → d ≡ p → p ≡ packed (s .control) → e ≡ l → l ≡ linkPacked (s .link)
     → length (s .memories .text) ≡ 128 → length (s .memories .glyph) ≡ 128 → length (s .memories .graphic) ≡ 2048
-    → putMid 2330 10 (putMid 2304 26 (putMid 256 2048 (putMid 128 128 (putMid 0 128 out a) b) c) d) e ≡ stateBytes s
+    → putMid 2331 10 (putMid 2304 27 (putMid 256 2048 (putMid 128 128 (putMid 0 128 out a) b) c) d) e ≡ stateBytes s
 unfolding stateBytes packed
 state-laid out s h ha hb hc hd hp he hl na nb nc =
     rw (ha, hb, hc, hd, hp, he, hl)

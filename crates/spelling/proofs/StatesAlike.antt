@@ -37,5 +37,5 @@ states-alike s t vs vt fs ft is =
     (first-alike 128 (s .memories .text) (t .memories .text) _ _ (vs .text) (vt .text) is)
     (first-alike 128 (s .memories .glyph) (t .memories .glyph) _ _ (vs .glyph) (vt .glyph) after-text)
     (first-alike 2048 (s .memories .graphic) (t .memories .graphic) _ _ (vs .graphic) (vt .graphic) after-glyph)
-    (controls-alike (s .control) (t .control) (vs .control) (vt .control) (first-alike 26 (packed (s .control)) (packed (t .control)) _ _ refl refl after-graphic))
-    (links-alike (s .link) (t .link) fs ft (rest-alike 26 (packed (s .control)) (packed (t .control)) _ _ refl refl after-graphic))
+    (controls-alike (s .control) (t .control) (vs .control) (vt .control) (first-alike 27 (packed (s .control)) (packed (t .control)) _ _ refl refl after-graphic))
+    (links-alike (s .link) (t .link) fs ft (rest-alike 27 (packed (s .control)) (packed (t .control)) _ _ refl refl after-graphic))

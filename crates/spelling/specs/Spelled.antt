@@ -5,7 +5,7 @@ use Rattle.calls.specs.State.{State}
 use Rattle.state_bytes.specs.Packed.{packed}
 use Rattle.state_bytes.specs.LinkPacked.{linkPacked}
 
--- a state as 2,340 bytes: text memory 128, glyph memory 128, graphic memory 2,048, the controls 26, the link 10
+-- a state as 2,341 bytes: text memory 128, glyph memory 128, graphic memory 2,048, the controls 27, the link 10
 unfoldable pub stateBytes : State → List ℕ
 stateBytes s = s .memories .text ++ (s .memories .glyph ++ (s .memories .graphic ++ (packed (s .control) ++ linkPacked (s .link))))
 

@@ -17,7 +17,7 @@ fn put(part: &[u8], out: &mut [u8])
 
 // The whole state, part by part.
 pub fn spell_state(panel: Panel, out: &mut [u8])
-    requires { ⌜ length (now out) ≡ 2340 ⌝ }
+    requires { ⌜ length (now out) ≡ 2341 ⌝ }
     ensures { λ _. ⌜ now (out .exit) ≡ stateBytes (stateOf panel) ⌝ }
 {
     let control = pack(panel.control);
@@ -25,8 +25,8 @@ pub fn spell_state(panel: Panel, out: &mut [u8])
     put(&panel.text, &mut out[0..128]);
     put(&panel.glyph, &mut out[128..256]);
     put(&panel.graphic, &mut out[256..2304]);
-    put(&control, &mut out[2304..2330]);
-    put(&link, &mut out[2330..2340]);
+    put(&control, &mut out[2304..2331]);
+    put(&link, &mut out[2331..2341]);
 }
 
 // The place where the replay stopped, and what the last accepted record answered.

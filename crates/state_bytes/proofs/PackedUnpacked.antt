@@ -6,13 +6,15 @@ use mathlib.Core.Path.{_≡_, refl}
 use native.Mathlib.Nat.{mod-eq-of-lt}
 use native.Mathlib.Omega.{arith}
 use lib.ListN.{length, getD}
+use Rattle.events.specs.declared.Numbering.{Numbering}
+use Rattle.events.specs.declared.Numbering.the-variants.{By96, By160}
 use Rattle.table.specs.declared.Target.{Target}
 use Rattle.table.specs.declared.Target.the-variants.{Text, Glyph, Graphic}
 use Rattle.controller.specs.declared.Waiting.{Waiting}
 use Rattle.controller.specs.declared.Waiting.the-variants.{Nothing, Row}
 use Rattle.controller.specs.declared.Control.{Control}
-use Rattle.controller.specs.State.{limit, RowInRange, InRange}
-use Rattle.state_bytes.specs.Packed.{flag, targetFrom, counterFrom, waitingFrom, placeFrom, viewFrom, unpacked, flagByte, targetByte, waitsByte, waitingByte, highByte, lowByte, packed}
+use Rattle.controller.specs.State.{numberingOf, limit, RowInRange, InRange}
+use Rattle.state_bytes.specs.Packed.{flag, targetFrom, counterFrom, waitingFrom, placeFrom, viewFrom, unpacked, flagByte, targetByte, numberingByte, waitsByte, waitingByte, highByte, lowByte, packed}
 
 flag-read : (on : Bool) → flag (flagByte on) ≡ on
 flag-read true = refl
@@ -22,6 +24,10 @@ target-read : (t : Target) → targetFrom (targetByte t) ≡ t
 target-read Text = refl
 target-read Glyph = refl
 target-read Graphic = refl
+
+numbering-read : (n : Numbering) → numberingOf (flag (numberingByte n)) ≡ n
+numbering-read By96 = refl
+numbering-read By160 = refl
 
 counter-read : (t : Target) (n : ℕ) → n < limit t → counterFrom t n ≡ n
 counter-read Text n h = mod-eq-of-lt h
@@ -57,5 +63,6 @@ unpacked-packed c r =
       mod-eq-of-lt (r .scroll),
       mod-eq-of-lt (r .shift),
       lines-read (c .view .reversed) (r .lines),
+      numbering-read (c .view .numbering),
       remaining-read (c .time .remaining),
     )

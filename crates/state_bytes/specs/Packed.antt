@@ -1,12 +1,14 @@
 -- The controls as bytes: target, counter, row, half next, dummy due, whether a row waits and which, I/D, S, display, cursor, blink,
--- DL, RE, G, SR, standby, scroll, shift, the four reversed lines, whether there is time, and the time that remains in two bytes, the high
--- one first. A flag is bit 0 of its byte, a number the bits it has room for.
+-- DL, RE, G, SR, standby, scroll, shift, the four reversed lines, whether there is time, the time that remains in two bytes, the high one
+-- first, and the numbering. A flag is bit 0 of its byte, a number the bits it has room for.
 use Prim.Native.Nat.{ℕ, _+_, _*_, _/_, _%_}
 use mathlib.Core.Bool.{Bool, false}
 use mathlib.Core.List.{List, [], _∷_}
 use lib.ListN.{getD}
 use lib.Dec.{eqb}
 use Rattle.base.specs.Choice.{if_then_else_}
+use Rattle.events.specs.declared.Numbering.{Numbering}
+use Rattle.events.specs.declared.Numbering.the-variants.{By96, By160}
 use Rattle.table.specs.declared.Target.{Target}
 use Rattle.table.specs.declared.Target.the-variants.{Text, Glyph, Graphic}
 use Rattle.controller.specs.declared.Waiting.{Waiting}
@@ -15,6 +17,7 @@ use Rattle.controller.specs.declared.Place.{Place}
 use Rattle.controller.specs.declared.View.{View}
 use Rattle.controller.specs.declared.Time.{Time}
 use Rattle.controller.specs.declared.Control.{Control}
+use Rattle.controller.specs.State.{numberingOf}
 
 abbrev pub flag : ℕ → Bool
 flag byte = eqb (byte % 2) 1
@@ -52,6 +55,7 @@ viewFrom b =
       scroll = getD b 17 0 % 64;
       shift = getD b 18 0 % 16;
       reversed = flag (getD b 19 0) ∷ flag (getD b 20 0) ∷ flag (getD b 21 0) ∷ flag (getD b 22 0) ∷ [];
+      numbering = numberingOf (flag (getD b 26 0));
     }
 
 unfoldable pub unpacked : List ℕ → Control
@@ -75,6 +79,11 @@ abbrev pub targetByte : Target → ℕ
 targetByte Text = 0
 targetByte Glyph = 1
 targetByte Graphic = 2
+
+-- 0 the old one, 1 the new
+abbrev pub numberingByte : Numbering → ℕ
+numberingByte By96 = 0
+numberingByte By160 = 1
 
 abbrev pub waitsByte : Waiting → ℕ
 waitsByte Nothing = 0
@@ -105,4 +114,5 @@ packed c =
     ∷ flagByte (c .sr) ∷ flagByte (c .standby)
     ∷ c .view .scroll ∷ c .view .shift
     ∷ lineByte (c .view) 0 ∷ lineByte (c .view) 1 ∷ lineByte (c .view) 2 ∷ lineByte (c .view) 3
-    ∷ flagByte (c .time .timed) ∷ highByte (c .time .remaining) ∷ lowByte (c .time .remaining) ∷ []
+    ∷ flagByte (c .time .timed) ∷ highByte (c .time .remaining) ∷ lowByte (c .time .remaining)
+    ∷ numberingByte (c .view .numbering) ∷ []

@@ -1,6 +1,7 @@
 // A state as bytes, in the order of `packed` and `linkPacked`.
 use controller::Control;
 use controller::Waiting;
+use events::Numbering;
 use links::Link;
 use links::Pairing;
 use serial::Header;
@@ -8,7 +9,7 @@ use serial::Receiver;
 use serial::Sync;
 use table::Target;
 ghost use mathlib.Core.Path.{_≡_};
-ghost use Rattle.state_bytes.specs.Packed.{targetByte, waitsByte, waitingByte, highByte, lowByte, packed};
+ghost use Rattle.state_bytes.specs.Packed.{targetByte, numberingByte, waitsByte, waitingByte, highByte, lowByte, packed};
 ghost use Rattle.state_bytes.specs.LinkPacked.{openBytes, pairingPacked, insideBytes, headerPacked, outsidePacked, receiverPacked, linkPacked};
 
 fn target_byte(target: Target) -> u8
@@ -18,6 +19,15 @@ fn target_byte(target: Target) -> u8
         Target::Text => 0,
         Target::Glyph => 1,
         Target::Graphic => 2,
+    }
+}
+
+fn numbering_byte(numbering: Numbering) -> u8
+    ensures { λ r. ⌜ r ≡ numberingByte numbering ⌝ }
+{
+    match numbering {
+        Numbering::By96 => 0,
+        Numbering::By160 => 1,
     }
 }
 
@@ -51,8 +61,8 @@ fn low_byte(number: u16) -> u8
     (number % 256) as u8
 }
 
-// The controls as 26 bytes.
-pub fn pack(control: Control) -> [u8; 26]
+// The controls as 27 bytes.
+pub fn pack(control: Control) -> [u8; 27]
     ensures { λ r. ⌜ r ≡ packed control ⌝ }
 {
     let place = control.place;
@@ -60,6 +70,7 @@ pub fn pack(control: Control) -> [u8; 26]
     let waiting = place.waiting;
     let view = control.view;
     let reversed = view.reversed;
+    let numbering = view.numbering;
     let remaining = control.time.remaining;
     [
         target_byte(target),
@@ -88,6 +99,7 @@ pub fn pack(control: Control) -> [u8; 26]
         control.time.timed as u8,
         high_byte(remaining),
         low_byte(remaining),
+        numbering_byte(numbering),
     ]
 }
 

@@ -172,7 +172,7 @@ module _ (e : Fonts) (text glyph : List ℕ) (look : Look) where
   by-counter : (word j : ℕ) (here : Bool) → word < 64 → eqb word (counterWord (look .counter)) ≡ here
       → tileByte e text glyph look word j
       ≡ inverted (getD (look .view .reversed) (word / 16) false)
-      (inverted (here && look .blink) (filled (here && (look .cursor && eqb (j / 2) 15)) (wordDots e text glyph word j)))
+      (inverted (here && look .blink) (filled (here && (look .cursor && eqb (j / 2) 15)) (wordDots e text glyph (look .view .numbering) word j)))
   unfolding tileByte
   by-counter word j here l e = rw (← counter-here (look .counter) word l, e)
 
@@ -187,7 +187,7 @@ module _ (e : Fonts) (text glyph : List ℕ) (look : Look) where
         → inverted (getD (look .view .reversed) line false && between 0 512 everywhere i)
         (inverted ((here && look .blink) && between start (start + 32) everywhere i)
         (filled ((here && look .cursor) && (eqb i (start + 30) || eqb i (start + 30 + 1)))
-        (wordDots e text glyph (lineWord (look .view .shift) line (i / 32)) (i % 32))))
+        (wordDots e text glyph (look .view .numbering) (lineWord (look .view .shift) line (i / 32)) (i % 32))))
         ≡ tileByte e text glyph look (lineWord (look .view .shift) line (i / 32)) (i % 32)
     line-byte i l =
         let word = lineWord (look .view .shift) line (i / 32) in
@@ -204,7 +204,7 @@ module _ (e : Fonts) (text glyph : List ℕ) (look : Look) where
         ))
 
     pub line-marked : (t w : List ℕ) (at counter : ℕ) (cursor blink : Bool)
-        → t ≡ upto 512 (byTile (λ cell j. wordDots e text glyph (lineWord (look .view .shift) line cell) j))
+        → t ≡ upto 512 (byTile (λ cell j. wordDots e text glyph (look .view .numbering) (lineWord (look .view .shift) line cell) j))
         → counter ≡ counterWord (look .counter)
         → at ≡ counterTile counter (look .view .shift)
         → cursor ≡ (eqb (counter / 16) line && look .cursor)
@@ -226,7 +226,7 @@ module _ (e : Fonts) (text glyph : List ℕ) (look : Look) where
     tile-byte : (j : ℕ) → j < 32
         → inverted (getD (look .view .reversed) (word / 16) false && between 0 32 everywhere j)
         (inverted ((marks && look .blink) && between 0 32 everywhere j)
-        (filled ((marks && look .cursor) && (eqb j 30 || eqb j 31)) (wordDots e text glyph word j)))
+        (filled ((marks && look .cursor) && (eqb j 30 || eqb j 31)) (wordDots e text glyph (look .view .numbering) word j)))
         ≡ tileByte e text glyph look word j
     tile-byte j l =
         let r : (eqb j 30 || eqb j 31) ≡ (between 0 32 everywhere j && eqb (j % 32 / 2) 15) = last-row 0 j in
@@ -244,7 +244,7 @@ module _ (e : Fonts) (text glyph : List ℕ) (look : Look) where
         ))
 
     pub tile-marked : (t w : List ℕ) (counter : ℕ) (cursor blink : Bool)
-        → t ≡ upto 32 (wordDots e text glyph word)
+        → t ≡ upto 32 (wordDots e text glyph (look .view .numbering) word)
         → counter ≡ counterWord (look .counter)
         → cursor ≡ (eqb word counter && look .cursor)
         → blink ≡ (eqb word counter && look .blink)

@@ -1,4 +1,5 @@
 // The tiles of a line's sixteen cells, one after the other: what is done to them before they are handed out, in document 01's order.
+use events::Numbering;
 use glyph::tile::lay;
 use picture::Look;
 use picture::Pair;
@@ -21,6 +22,7 @@ ghost use Rattle.picture.specs.Tiles.{wordDots, lineWord, counterTile, tileByte
 fn lay_word(
     text: &[u8; 128],
     glyph: &[u8; 128],
+    numbering: Numbering,
     word: u32,
     tiles: &mut [u8],
     to: usize,
@@ -28,9 +30,9 @@ fn lay_word(
     full: &[u8],
 )
     requires { ⌜ (word < 64) × (to + 32 ≤ length (now tiles)) × (length (now half) ≡ 2048) ⌝ }
-    ensures { λ _. ⌜ now (tiles .exit) ≡ painted (between to (to + 32) everywhere) (λ i. wordDots (fonts half full) (now (text .entry)) (now (glyph .entry)) word (i - to)) (now (tiles .entry)) ⌝ }
+    ensures { λ _. ⌜ now (tiles .exit) ≡ painted (between to (to + 32) everywhere) (λ i. wordDots (fonts half full) (now (text .entry)) (now (glyph .entry)) numbering word (i - to)) (now (tiles .entry)) ⌝ }
 {
-    let shown = word_content(text, word, full.len());
+    let shown = word_content(text, numbering, word, full.len());
     lay(shown, tiles, to, glyph, half, full);
 }
 
@@ -38,6 +40,7 @@ fn lay_word(
 fn lay_words(
     text: &[u8; 128],
     glyph: &[u8; 128],
+    numbering: Numbering,
     shift: u32,
     line: u32,
     tiles: &mut [u8],
@@ -45,13 +48,13 @@ fn lay_words(
     full: &[u8],
 )
     requires { ⌜ (shift < 256) × (line < 4) × (length (now tiles) ≡ 512) × (length (now half) ≡ 2048) ⌝ }
-    ensures { λ _. ⌜ now (tiles .exit) ≡ upto 512 (byTile (λ cell j. wordDots (fonts half full) (now (text .entry)) (now (glyph .entry)) (lineWord shift line cell) j)) ⌝ }
+    ensures { λ _. ⌜ now (tiles .exit) ≡ upto 512 (byTile (λ cell j. wordDots (fonts half full) (now (text .entry)) (now (glyph .entry)) numbering (lineWord shift line cell) j)) ⌝ }
 {
     let mut cell: u32 = 0;
     while cell < 16 {
         let word = 16 * line + (cell + shift) % 16;
         let to = 32 * (cell as usize);
-        lay_word(text, glyph, word, tiles, to, half, full);
+        lay_word(text, glyph, numbering, word, tiles, to, half, full);
         cell += 1;
     }
 }
@@ -121,13 +124,15 @@ pub fn lay_line(
     requires { ⌜ (line < 4) × (length (now tiles) ≡ 512) × (length (now half) ≡ 2048) ⌝ }
     ensures { λ _. ⌜ now (tiles .exit) ≡ upto 512 (byTile (λ cell j. tileByte (fonts half full) (now (text .entry)) (now (glyph .entry)) look (lineWord (look .view .shift) line cell) j)) ⌝ }
 {
-    let shift = look.view.shift as u32;
+    let view = look.view;
+    let numbering = view.numbering;
+    let shift = view.shift as u32;
     let cell = look.counter;
     let counter = counter_word(cell);
     let here = counter / 16 == line;
     let at = counter_tile(counter, shift);
-    let reversed = look.view.reversed;
-    lay_words(text, glyph, shift, line, tiles, half, full);
+    let reversed = view.reversed;
+    lay_words(text, glyph, numbering, shift, line, tiles, half, full);
     mark(
         tiles,
         at,
@@ -151,11 +156,13 @@ pub fn lay_tile(
     requires { ⌜ (word < 64) × (length (now tile) ≡ 32) × (length (now half) ≡ 2048) ⌝ }
     ensures { λ _. ⌜ now (tile .exit) ≡ upto 32 (tileByte (fonts half full) (now (text .entry)) (now (glyph .entry)) look word) ⌝ }
 {
+    let view = look.view;
+    let numbering = view.numbering;
     let cell = look.counter;
     let here = word == counter_word(cell);
-    let reversed = look.view.reversed;
+    let reversed = view.reversed;
     let line = word / 16;
-    lay_word(text, glyph, word, tile, 0, half, full);
+    lay_word(text, glyph, numbering, word, tile, 0, half, full);
     mark(
         tile,
         0,

@@ -4,6 +4,7 @@
 // Prints a number that depends on all that was done, so that none of it can be left out.
 use controller::Control;
 use events::Made;
+use events::Numbering;
 use events::Transfer;
 use libc::STDOUT_FILENO;
 use links::Link;
@@ -79,6 +80,7 @@ fn by_value() -> u32 {
     let mut panel = Panel::fresh(Made {
         parallel: true,
         time: false,
+        numbering: Numbering::By96,
     });
     let mut frame = [0u8; 1024];
     let half = [0u8; 2048];
@@ -103,6 +105,7 @@ fn on_lent(what: u8) -> u32 {
     let mut control = Control::fresh(Made {
         parallel: true,
         time: false,
+        numbering: Numbering::By96,
     });
     let mut link = links::idle(true);
     let mut frame = [0u8; 1024];
@@ -145,6 +148,7 @@ fn copies() -> u32 {
     let mut panel = Panel::fresh(Made {
         parallel: true,
         time: false,
+        numbering: Numbering::By96,
     });
     let mut sum: u32 = 0;
     let mut i: u32 = 0;
@@ -161,6 +165,7 @@ fn draws() -> u32 {
     let panel = Panel::fresh(Made {
         parallel: true,
         time: false,
+        numbering: Numbering::By96,
     });
     let mut frame = [0u8; 1024];
     let half = [0u8; 2048];

@@ -1,4 +1,4 @@
-// The controls that 26 bytes spell, in the order in which `unpacked` reads them. A byte that is out of range counts by the bits that it
+// The controls that 27 bytes spell, in the order in which `unpacked` reads them. A byte that is out of range counts by the bits that it
 // should have; of the time that remains all 16 count.
 use controller::Control;
 use controller::Entry;
@@ -8,6 +8,7 @@ use controller::Shown;
 use controller::Time;
 use controller::View;
 use controller::Waiting;
+use controller::controls::numbering;
 use table::Target;
 ghost use mathlib.Core.Path.{_≡_};
 ghost use Rattle.state_bytes.specs.Packed.{flag, targetFrom, counterFrom, waitingFrom, timeFrom, placeFrom, viewFrom, unpacked};
@@ -59,7 +60,7 @@ fn time(timed: u8, high: u8, low: u8) -> Time
     }
 }
 
-fn place(bytes: &[u8; 26]) -> Place
+fn place(bytes: &[u8; 27]) -> Place
     ensures { λ r. ⌜ r ≡ placeFrom (now (bytes .entry)) ⌝ }
 {
     let target = target(bytes[0]);
@@ -78,9 +79,10 @@ fn place(bytes: &[u8; 26]) -> Place
     }
 }
 
-fn view(bytes: &[u8; 26]) -> View
+fn view(bytes: &[u8; 27]) -> View
     ensures { λ r. ⌜ r ≡ viewFrom (now (bytes .entry)) ⌝ }
 {
+    let numbering = numbering(bytes[26] % 2 == 1);
     View {
         scroll: bytes[17] % 64,
         shift: bytes[18] % 16,
@@ -90,10 +92,11 @@ fn view(bytes: &[u8; 26]) -> View
             bytes[21] % 2 == 1,
             bytes[22] % 2 == 1,
         ],
+        numbering,
     }
 }
 
-pub fn unpack(bytes: &[u8; 26]) -> Control
+pub fn unpack(bytes: &[u8; 27]) -> Control
     ensures { λ r. ⌜ r ≡ unpacked (now (bytes .entry)) ⌝ }
 {
     let place = place(bytes);

@@ -5,9 +5,10 @@ use crate::saying::print_count;
 use crate::saying::print_flag;
 use crate::saying::print_word;
 use events::Made;
+use events::Numbering;
 use events::Transfer;
-use glyph::Code;
-use glyph::numbering::number;
+use numbering::Code;
+use numbering::number;
 use panel::Outcome;
 use panel::Panel;
 ghost use Rattle.calls.specs.State.{Valid};
@@ -40,6 +41,7 @@ pub(crate) fn fresh(parallel: bool) -> Panel
     Panel::fresh(Made {
         parallel,
         time: false,
+        numbering: Numbering::By96,
     })
 }
 
@@ -130,13 +132,23 @@ pub(crate) fn readings() {
     );
 }
 
-// The number of a code, or nothing where it has none.
-pub(crate) fn print_code(lead: u8, trail: u8) {
-    print_word(b"", lead, trail);
-    let code = number(lead, trail);
+// The number of a code, or a dash where it has none.
+fn print_code(numbering: Numbering, lead: u8, trail: u8) {
+    print_word(b" ", lead, trail);
+    let code = number(numbering, lead, trail);
     match code {
         Code::Number(n) => print_count(b" ", n as usize),
-        Code::Unnumbered => {}
+        Code::Unnumbered => print(b" -"),
+    }
+}
+
+// The numbers of codes, by one numbering.
+pub(crate) fn codes(label: &[u8], numbering: Numbering, codes: &[u8]) {
+    print(label);
+    let pairs = codes.len() / 2;
+    for i in 0..pairs {
+        let at = 2 * i;
+        print_code(numbering, codes[at], codes[at + 1]);
     }
     print(b"\n");
 }

@@ -6,6 +6,7 @@ use crate::readings::print_state;
 use crate::readings::transferred;
 use crate::saying::print;
 use crate::saying::print_count;
+use events::Numbering;
 use events::Pin;
 use events::Transfer;
 use panel::Outcome;
@@ -133,23 +134,25 @@ fn knock(panel: Panel, pin: Pin, frame: &mut [u8], half: &[u8], full: &[u8]) -> 
     restart(last, pin, frame, half, full)
 }
 
+// The pin, with the old numbering.
+fn pin(parallel: bool) -> Pin {
+    Pin {
+        parallel,
+        numbering: Numbering::By96,
+    }
+}
+
 // A parallel panel that has written half a word.
 fn on_parallel(frame: &mut [u8], half: &[u8], full: &[u8]) {
     print(b"  parallel: ");
-    let last = knock(half_written(), Pin { parallel: true }, frame, half, full);
+    let last = knock(half_written(), pin(true), frame, half, full);
     print_state(told(b"; then read ", transferred(last, Transfer::Read)));
 }
 
 // A serial panel that has heard all bits of a write but the last.
 fn on_serial(frame: &mut [u8], half: &[u8], full: &[u8]) {
     print(b"  serial: ");
-    let last = knock(
-        heard(0xFA20D000, 23),
-        Pin { parallel: false },
-        frame,
-        half,
-        full,
-    );
+    let last = knock(heard(0xFA20D000, 23), pin(false), frame, half, full);
     print_state(told(b"; then bit ", shifted(last, false)));
 }
 
@@ -165,13 +168,13 @@ fn long_frame() -> [u8; 65536] {
     [UNTOUCHED; 65536]
 }
 
-fn long_full_font() -> [u8; 267296] {
-    [0u8; 267296]
+fn long_full_font() -> [u8; 281632] {
+    [0u8; 281632]
 }
 
 // Every call with buffers of these lengths.
 fn lent(n: usize, h: usize, f: usize)
-    requires { ⌜ (n ≤ 65536) × (h ≤ 2049) × (f ≤ 267296) ⌝ }
+    requires { ⌜ (n ≤ 65536) × (h ≤ 2049) × (f ≤ 281632) ⌝ }
 {
     let mut frame = long_frame();
     let mut other = long_frame();
@@ -185,7 +188,8 @@ fn lent(n: usize, h: usize, f: usize)
 pub(crate) fn refusals() {
     lent(1024, 2048, 0);
     lent(1024, 2048, 32);
-    lent(1024, 2048, 267264);
+    lent(1024, 2048, 267296);
+    lent(1024, 2048, 281600);
     lent(0, 2048, 32);
     lent(1023, 2048, 32);
     lent(1025, 2048, 32);
@@ -199,9 +203,9 @@ pub(crate) fn refusals() {
 fn wrong_full_fonts() {
     lent(1024, 2048, 31);
     lent(1024, 2048, 33);
-    lent(1024, 2048, 267263);
-    lent(1024, 2048, 267265);
-    lent(1024, 2048, 267296);
+    lent(1024, 2048, 281599);
+    lent(1024, 2048, 281601);
+    lent(1024, 2048, 281632);
     lent(1023, 2047, 32);
     lent(1023, 2048, 33);
     lent(1024, 2047, 33);

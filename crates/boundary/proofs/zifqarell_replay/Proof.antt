@@ -16,11 +16,13 @@ zifqarell-replay-spec =
     (λ c κs. search needs)
     (λ c κs. search needs)
     (λ c κs. search needs)
+    (λ c κs. search needs)
     (λ c. search needs)
     (λ c.
     let at-replay = c .before .before .before .before .before .before in
     let at-fresh = at-replay .before .before in
-    let lent = at-fresh .before .before .before .before .before .before .before .args in
+    let at-test = at-fresh .before .before in
+    let lent = at-test .before .before .before .before .before .before .args in
     told _ (record { fonts = record { half = lent .half .now; full = lent .full .now }; phase = lent .phase }) _ _ _ _ _
-    (at-fresh .before .before .refusal .ensures) (at-fresh .before .if1 .left) (at-fresh .fresh .ensures .0) (at-replay .replay .ensures .0)
+    (at-test .before .refusal .ensures) (at-test .if1 .left) (rw (at-fresh .before .numbering .ensures) at (at-fresh .fresh .ensures .0)) (at-replay .replay .ensures .0)
     (c .before .spell-state .ensures) (c .last-bytes .ensures)))

@@ -1,4 +1,5 @@
 -- By the kind; the last arm is that of the one kind which is left.
+use borrow.Author.Needs.{needs}
 use mathlib.Core.List.{List, [], _∷_}
 use mathlib.Core.Path.{_≡_, refl}
 use Rattle.events.specs.declared.Event.{Event}
@@ -14,12 +15,13 @@ unfolding kindOf
 event-of-spec =
     tie.close
     (tie.spec
+    (λ c κs. search needs)
     (λ c. rw (c .match .keys1))
     (λ c. rw (c .match .keys2))
     (λ c. rw (c .match .keys3))
     (λ c. rw (c .match .keys4))
     (λ c. rw (c .match .keys5))
-    (λ c. rw (c .match .keys6))
+    (λ c. rw (c .before .match .keys6, c .pin-of .ensures))
     (λ c. let others = c .match .rest in
     let value = c .before .args .value in
     by-kind (λ (k : Kind). _≡_ {A = List Event} (Pass value ∷ []) (asks k value)) (c .before .args .kind)

@@ -19,7 +19,7 @@ lay-line-spec =
     (λ c. search needs)
     (λ c κs. search needs)
     (λ c. search needs)
-    (λ c. let marks = c .before .before in let laid = marks .before .before .before .before .before .before in let at = laid .before .before .before in let start = at .before .before .before .before .before .before in
+    (λ c. let marks = c .before .before in let laid = marks .before .before .before .before .before .before in let at = laid .before .before .before in let start = at .before .before .before .before .before .before .before in
     let a = start .args in let s : a .look .view .shift < 256 = omega (arith, start .good .1 .1 .0) in
     line-marked (record { half = a .half .now; full = a .full .now }) (a .text .now) (a .glyph .now) (a .look) (a .line) s (start .pre .0) _ _ _ _ _ _ (laid .lay-words .ensures)
     (at .before .counter-word .ensures) (at .counter-tile .ensures) (marks .before .before .both .ensures) (marks .before .both2 .ensures) (marks .mark .ensures)))

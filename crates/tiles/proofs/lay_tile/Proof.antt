@@ -17,7 +17,7 @@ lay-tile-spec =
     (λ c. search needs)
     (λ c κs. search needs)
     (λ c. search needs)
-    (λ c. let marks = c .before .before in let laid = marks .before .before .before .before .before .before in let here = laid .before .before .before in let start = here .before .before .before .before in
+    (λ c. let marks = c .before .before in let laid = marks .before .before .before .before .before .before in let here = laid .before .before .before in let start = here .before .before .before .before .before in
     let a = start .args in
     tile-marked (record { half = a .half .now; full = a .full .now }) (a .text .now) (a .glyph .now) (a .look) (a .word) (start .pre .0) _ _ _ _ _
     (whole-stretch 32 _ _ _ (start .pre .1) (laid .lay-word .ensures)) (here .counter-word .ensures) (marks .before .before .both .ensures) (marks .before .both2 .ensures) (marks .mark .ensures)))

@@ -9,6 +9,6 @@ lay-word-spec =
     tie.close
     (tie.spec
     (λ c κs. search needs)
-    (λ c κs. (search needs, search needs, rw (c .before .word-content .ensures) (word-inside _ _ _)))
+    (λ c κs. (search needs, search needs, rw (c .before .word-content .ensures) (word-inside _ _ _ _)))
     (λ c. search needs)
     (λ c. rw (c .before .before .before .before .word-content .ensures) at (c .before .before .lay .ensures)))

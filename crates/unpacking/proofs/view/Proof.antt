@@ -1,6 +1,5 @@
--- By computation.
+-- By computation, with the numbering that the callee gives.
 use borrow.Author.Needs.{needs}
-use mathlib.Core.Path.{refl}
 use Rattle.state_bytes.specs.Packed.{viewFrom}
 use Rattle.unpacking.proofs.view.Statement.{statement}
 use Rattle.unpacking.proofs.view.Tie as tie
@@ -11,9 +10,11 @@ view-spec =
     tie.close
     (tie.spec
     (λ c. search needs)
+    (λ c κs. search needs)
     (λ c. search needs)
     (λ c. search needs)
     (λ c. search needs)
     (λ c. search needs)
     (λ c. search needs)
-    (λ c. refl))
+    (λ c. search needs)
+    (λ c. rw (c .before .before .before .before .before .before .numbering .ensures)))

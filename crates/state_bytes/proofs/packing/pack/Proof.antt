@@ -36,4 +36,5 @@ pack-spec =
     (λ c. search needs)
     (λ c κs. search needs)
     (λ c κs. search needs)
-    (λ c. simp (flag-byte, c .low-byte .ensures, c .before .high-byte .ensures, c .before .before .before .before .before .before .before .before .before .before .before .before .before .waiting-byte .ensures, c .before .before .before .before .before .before .before .before .before .before .before .before .before .before .waits-byte .ensures, c .before .before .before .before .before .before .before .before .before .before .before .before .before .before .before .before .before .target-byte .ensures)))
+    (λ c κs. search needs)
+    (λ c. simp (flag-byte, c .numbering-byte .ensures, c .before .low-byte .ensures, c .before .before .high-byte .ensures, c .before .before .before .before .before .before .before .before .before .before .before .before .before .before .waiting-byte .ensures, c .before .before .before .before .before .before .before .before .before .before .before .before .before .before .before .waits-byte .ensures, c .before .before .before .before .before .before .before .before .before .before .before .before .before .before .before .before .before .before .target-byte .ensures)))

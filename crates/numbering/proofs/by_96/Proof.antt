@@ -1,13 +1,13 @@
 -- By the ends of the leads and of the trails.
 use borrow.Author.Needs.{needs}
 use borrow.Author.Tests.{le-leb, lt-leb}
-use Rattle.glyph.specs.Numbering.{numberOf}
-use Rattle.glyph.proofs.numbering.number.Statement.{statement}
-use Rattle.glyph.proofs.numbering.number.Tie as tie
+use Rattle.numbering.specs.Numbering.{numberOf}
+use Rattle.numbering.proofs.by_96.Statement.{statement}
+use Rattle.numbering.proofs.by_96.Tie as tie
 
-pub number-spec : {M : Type 1} → statement M
+pub by-96-spec : {M : Type 1} → statement M
 unfolding numberOf
-number-spec =
+by-96-spec =
     tie.close
     (tie.spec
     (λ c. simp (lt-leb _ _ (c .if1 .taken)))
