@@ -25,6 +25,7 @@ use Rattle.calls.specs.Calls.{Called, unlessOther}
 use Rattle.demands.proofs.Agreement.{call-is-connected, sent-is-received, writes-are-received, links-agree}
 use Rattle.demands.proofs.Lost.{lost-when-busy, lost-leaves-all, quiet-calls-cost-nothing, carried-out-unless-lost, costs, status-shows-busy, pass-falls, time-is-kept, fresh-is-not-busy}
 use Rattle.demands.proofs.Direction.{clear-turns, home-does-not, others-do-not, else-as-home}
+use Rattle.demands.proofs.Numbered.{no-two-share, each-is-some-codes, none-beyond, others-as-before, end-not-asked-for, shown-by-number, chosen-when-made, chosen-at-reset, kept-otherwise, seen-in-picture-alone, names-the-same}
 use Rattle.demands.proofs.WithoutTime.{as-before-time, no-time-passes}
 use Rattle.demands.proofs.Waiting.{waiting-is-served}
 use Rattle.demands.proofs.Waits.{none-lost-without-time, waiting-sender-is-served}
@@ -77,6 +78,17 @@ demand-2 =
       turnsNotByHome = home-does-not;
       turnsNotByOthers = others-do-not;
       elseAsHome = else-as-home;
+      numbersOnce = no-two-share;
+      numbersAll = each-is-some-codes;
+      numbersNoMore = none-beyond;
+      othersAsBefore = others-as-before;
+      endNotAskedFor = end-not-asked-for;
+      shownByNumber = shown-by-number;
+      chosenWhenMade = chosen-when-made;
+      chosenAtReset = chosen-at-reset;
+      keepsNumbering = kept-otherwise;
+      seenAlone = seen-in-picture-alone;
+      namesTheSame = names-the-same;
       loses = lost-when-busy;
       leaves = lost-leaves-all;
       quiet = quiet-calls-cost-nothing;

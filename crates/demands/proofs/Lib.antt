@@ -8,8 +8,10 @@ pub mod KeepDl
 pub mod NoneLost
 pub mod Timely
 pub mod Quiet
+pub mod Carried
 pub mod Lost
 pub mod Direction
+pub mod Numbered
 pub mod WithoutTime
 pub mod Waiting
 pub mod Waits

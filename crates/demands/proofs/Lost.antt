@@ -1,7 +1,7 @@
 -- A transfer that a call brings is lost or carried out: by the busy test, where it acts.
 use Prim.{Unit}
 use Prim.Native.Nat.{ℕ, _+_, _*_, _-_, _<_}
-use mathlib.Core.Bool.{Bool, true, false, not, _&&_, Bool·beq, true≢false}
+use mathlib.Core.Bool.{Bool, true, false, not, _&&_, true≢false}
 use mathlib.Core.List.{List}
 use mathlib.Core.Logic.{_↔_, _≢_}
 use mathlib.Core.Path.{_≡_, refl, sym, ap, subst, _∙_}
@@ -9,7 +9,6 @@ use native.Mathlib.Omega.{arith}
 use lib.Dec.{ltb}
 use borrow.Author.Tests.{ltb-true, lt-ltb}
 use Rattle.base.specs.Choice.{if_then_else_}
-use Rattle.base.proofs.Choice.{either}
 use Rattle.table.specs.declared.Instruction.{Instruction}
 use Rattle.table.specs.declared.Instruction.the-variants.{Ignored, Clear, Home, EntryMode, Display, MoveCursor, MoveDisplay, FunctionSet, GlyphAddress, TextAddress, Standby, SetSr, ToggleReverse, Scroll, GraphicAddress}
 use Rattle.table.specs.Table.{said}
@@ -32,19 +31,19 @@ use Rattle.events.specs.declared.Deed.the-variants as deed
 use Rattle.links.specs.declared.Link.{Link}
 use Rattle.links.specs.declared.Link.the-variants.{Parallel, Serial}
 use Rattle.links.specs.declared.Pairing.{Pairing}
-use Rattle.links.specs.declared.Pairing.the-variants.{Empty, Upper, Lower}
 use Rattle.links.specs.declared.Rest.{Rest}
 use Rattle.links.specs.declared.Rest.the-variants.{Stays}
 use Rattle.links.specs.declared.Carried.{Carried}
 use Rattle.links.specs.declared.Taken.{Taken}
 use Rattle.links.specs.declared.Taken.the-variants.{OtherLink, Carries}
-use Rattle.links.specs.Halves.{writeHalf, readHalf, paired}
+use Rattle.links.specs.Halves.{paired}
 use Rattle.links.specs.Taken.{byWidth, takenBy, replied}
 use Rattle.picture.specs.Picture.{Seen}
 use Rattle.calls.specs.State.{State, state, freshState}
 use Rattle.calls.specs.Calls.{Called, refused, accepted, unlessOther, takenOn, reaching, timeless, unlessTimeless, Fits, called}
 use Rattle.calls.proofs.Kept.{admitted, called-timed}
 use Rattle.demands.specs.Lost.{LostWhenBusy, Costs, Brings, LostLeavesAll, BringsNothing, QuietCallsCostNothing, apartFromTime, CarriedOutUnlessLost, StatusShowsBusy, PassFalls, TimeIsKept, FreshIsNotBusy}
+use Rattle.demands.proofs.Carried.{of-paired}
 use Rattle.demands.proofs.Quiet.{unnamed-accepted}
 use Rattle.demands.proofs.Timely.{admitted-timely, unpassed-timely}
 
@@ -103,25 +102,8 @@ abbrev ZeroTaken : Taken → Type 0
 ZeroTaken OtherLink = Unit {0}
 ZeroTaken (Carries x) = ZeroBack x
 
-write-zero : (pairing : Pairing) (register : Bool) (value : ℕ) → ZeroBack (writeHalf pairing register value)
-unfolding writeHalf
-write-zero Empty register value = λ t h. refl
-write-zero (Upper was upper) register value = either ZeroBack (Bool·beq was register) (λ t h. refl) (λ t h. refl)
-write-zero (Lower was lower) register value = λ t h. refl
-
-read-zero : (pairing : Pairing) (register : Bool) → ZeroBack (readHalf pairing register)
-unfolding readHalf
-read-zero Empty register = λ t h. refl
-read-zero (Upper was upper) register = λ t h. refl
-read-zero (Lower was lower) register =
-    either ZeroBack (Bool·beq was register) (λ t h. absurd (true≢false cc)) (λ t h. refl)
-
 paired-zero : (pairing : Pairing) (t : Transfer) → ZeroBack (paired pairing t)
-unfolding paired
-paired-zero pairing (Instruct value) = write-zero pairing false value
-paired-zero pairing (Write value) = write-zero pairing true value
-paired-zero pairing Status = read-zero pairing false
-paired-zero pairing Read = read-zero pairing true
+paired-zero = of-paired ZeroBack (λ register upper t h. refl) (λ u t h. refl) (λ reply t h. absurd (true≢false cc))
 
 taken-zero : (dl : Bool) (link : Link) (call : Event) → ZeroTaken (takenBy dl link call)
 unfolding takenBy byWidth

@@ -23,7 +23,7 @@ use Rattle.links.specs.Halves as halves
 use Rattle.links.specs.Taken.{byWidth, takenBy}
 use Rattle.connector.specs.Items.{bitsOf}
 use Rattle.serial.specs.Serial.{counted, afterHeader, headerBit, bodyBit, completed, heard}
-use Rattle.glyph.specs.Numbering.{numberOf}
+use Rattle.numbering.specs.Numbering.{numberOf}
 use Rattle.picture.specs.Picture.{Seen}
 use Rattle.picture.specs.Refusals.{refusalOf}
 use Rattle.repaint.specs.Repaint.{named, countNamed}
@@ -31,7 +31,7 @@ use Rattle.calls.specs.State.{State, state, freshState}
 use Rattle.calls.specs.Calls.{Called, accepted, refused, unlessOther, takenOn, timeless, Fits, called, afterCalls}
 use Rattle.demands.specs.Wires.{answers}
 use Rattle.calls.proofs.Kept.{admitted, still-fits}
-use Rattle.demands.specs.Readings.{Case, cases, timedCases, turnedCases, zeroFonts, Observed, observed, AllRead, AllHold, ReadingsHold, TimedReadingsHold, TurnedReadingsHold}
+use Rattle.demands.specs.Readings.{Case, cases, timedCases, turnedCases, numberedCases, zeroFonts, Observed, observed, AllRead, AllHold, ReadingsHold, TimedReadingsHold, TurnedReadingsHold, NumberedReadingsHold}
 
 -- what a call leaves but the frame
 pub record Told : Type 0 where
@@ -225,3 +225,28 @@ turned-rows-hold = (
 
 pub turned-readings-hold : TurnedReadingsHold
 turned-readings-hold = all-hold turnedCases turned-rows-hold
+
+numbered-rows-hold : AllRows numberedCases
+unfolding AllRows Holds AllRead numberedCases allTold lastState tells answers called takenBy byWidth performed onTime carriedOut executed written statusRead obeyed said rowOf stored moved movedOn instructionNames writeNames covers inCell shownRow shownWord named countNamed count refusalOf freshControl freshMemories freshState bitsOf heard counted afterHeader headerBit bodyBit completed numberOf
+numbered-rows-hold = (
+  inl (refl, (refl, (refl, (refl, (refl, (refl, (refl, tt))))))),
+  (
+    inl (refl, (refl, (refl, (refl, (refl, (refl, (refl, (refl, (refl, (refl, tt)))))))))),
+    (
+      inl (refl, (refl, tt)),
+      (
+        inl (refl, (refl, (refl, (refl, tt)))),
+        (
+          inl (refl, (refl, (refl, tt))),
+          (
+            inl (refl, (refl, (refl, tt))),
+            tt,
+          ),
+        ),
+      ),
+    ),
+  ),
+)
+
+pub numbered-readings-hold : NumberedReadingsHold
+numbered-readings-hold = all-hold numberedCases numbered-rows-hold

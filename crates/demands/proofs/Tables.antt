@@ -33,13 +33,13 @@ use Rattle.demands.specs.Demand1.{SenderSays, SendRefuses, Marked, Allow
 abbrev pub orWants : Bool → Bool → ℕ → ℕ
 orWants wants other n = if eqb n 0 then (if wants then 8 else if other then 5 else 0) else n
 
-full-good : (e : Seen) → (not (eqb (length (e .fonts .full) % 32) 0) || ltb 267264 (length (e .fonts .full))) ≡ false → GoodFullFont e
+full-good : (e : Seen) → (not (eqb (length (e .fonts .full) % 32) 0) || ltb 281600 (length (e .fonts .full))) ≡ false → GoodFullFont e
 full-good e d =
-    let q = or-neither (not (eqb (length (e .fonts .full) % 32) 0)) (ltb 267264 (length (e .fonts .full))) d in
-    (eqb-true (length (e .fonts .full) % 32) 0 (not-false (eqb (length (e .fonts .full) % 32) 0) (q .0)), ltb-false 267264 (length (e .fonts .full)) (q .1))
+    let q = or-neither (not (eqb (length (e .fonts .full) % 32) 0)) (ltb 281600 (length (e .fonts .full))) d in
+    (eqb-true (length (e .fonts .full) % 32) 0 (not-false (eqb (length (e .fonts .full) % 32) 0) (q .0)), ltb-false 281600 (length (e .fonts .full)) (q .1))
 
-good-full : (e : Seen) → GoodFullFont e → (not (eqb (length (e .fonts .full) % 32) 0) || ltb 267264 (length (e .fonts .full))) ≡ false
-good-full e g = rw (eq-eqb (length (e .fonts .full) % 32) 0 (g .0), le-ltb 267264 (length (e .fonts .full)) (g .1))
+good-full : (e : Seen) → GoodFullFont e → (not (eqb (length (e .fonts .full) % 32) 0) || ltb 281600 (length (e .fonts .full))) ≡ false
+good-full e g = rw (eq-eqb (length (e .fonts .full) % 32) 0 (g .0), le-ltb 281600 (length (e .fonts .full)) (g .1))
 
 module _ (e : Seen) (frame : List ℕ) (wants other : Bool) where
   abbrev pub tableNumber : ℕ
@@ -56,7 +56,7 @@ module _ (e : Seen) (frame : List ℕ) (wants other : Bool) where
       either-told Says (not (eqb (length (e .fonts .half)) 2048))
       (λ t. halfFontLength f (eqb-false (length (e .fonts .half)) 2048 (not-true (eqb (length (e .fonts .half)) 2048) t)))
       (λ b. let h = eqb-true (length (e .fonts .half)) 2048 (not-false (eqb (length (e .fonts .half)) 2048) b) in
-      either-told Says (not (eqb (length (e .fonts .full) % 32) 0) || ltb 267264 (length (e .fonts .full)))
+      either-told Says (not (eqb (length (e .fonts .full) % 32) 0) || ltb 281600 (length (e .fonts .full)))
       (λ t. fullFontLength f h (λ g. true≢false (sym t ∙ good-full e g)))
       (λ d. either-told (TableSays e frame wants other) wants (wantOfTime f h (full-good e d))
       (λ w. either-told (TableSays e frame wants other) other (otherLink f h (full-good e d) w) (allGood f h (full-good e d) w)))))
@@ -69,7 +69,7 @@ module _ (e : Seen) (frame : List ℕ) (wants other : Bool) where
       rw (
         eq-eqb (length frame) 1024 f,
         eq-eqb (length (e .fonts .half)) 2048 h,
-        by-test (not (eqb (length (e .fonts .full) % 32) 0) || ltb 267264 (length (e .fonts .full))) (λ t. t) (λ d. absurd (g (full-good e d))),
+        by-test (not (eqb (length (e .fonts .full) % 32) 0) || ltb 281600 (length (e .fonts .full))) (λ t. t) (λ d. absurd (g (full-good e d))),
       )
   table-number n (wantOfTime f h g w) = rw (eq-eqb (length frame) 1024 f, eq-eqb (length (e .fonts .half)) 2048 h, good-full e g, w)
   table-number n (otherLink f h g w o) = rw (eq-eqb (length frame) 1024 f, eq-eqb (length (e .fonts .half)) 2048 h, good-full e g, w, o)
@@ -100,7 +100,7 @@ allowed-is kind value h =
       statusRead = λ k. eqb-true value 0 (subst (λ (n : ℕ). kinds.allowed (kindOf n) value ≡ true) k h);
       dataRead = λ k. eqb-true value 0 (subst (λ (n : ℕ). kinds.allowed (kindOf n) value ≡ true) k h);
       selectLow = λ k. eqb-true value 0 (subst (λ (n : ℕ). kinds.allowed (kindOf n) value ≡ true) k h);
-      reset = λ k. leb-true value 1 (subst (λ (n : ℕ). kinds.allowed (kindOf n) value ≡ true) k h);
+      reset = λ k. leb-true value 3 (subst (λ (n : ℕ). kinds.allowed (kindOf n) value ≡ true) k h);
     }
 
 is-allowed : (kind value : ℕ) → Allowed kind value → kinds.allowed (kindOf kind) value ≡ true
@@ -110,7 +110,7 @@ is-allowed kind value a =
     (λ k. eq-eqb value 0 (a .dataRead k))
     (λ k. refl)
     (λ k. eq-eqb value 0 (a .selectLow k))
-    (λ k. le-leb value 1 (a .reset k))
+    (λ k. le-leb value 3 (a .reset k))
     (λ k. refl)
 
 module _ (time : Bool) (c : List ℕ) where

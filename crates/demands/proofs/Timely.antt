@@ -60,7 +60,7 @@ timeless-names s (Reset pin) i w = absurd (true≢false (sym w))
 timeless-names s (Pass eights) i w = refl
 
 -- whether it is depends on nothing but whether there is time
-timeless-same : (c d : Control) (call : Event) → c .time .timed ≡ d .time .timed → timeless c call ≡ timeless d call
+pub timeless-same : (c d : Control) (call : Event) → c .time .timed ≡ d .time .timed → timeless c call ≡ timeless d call
 timeless-same c d (Transfer t) h = refl
 timeless-same c d (Bit b) h = refl
 timeless-same c d SelectLow h = refl

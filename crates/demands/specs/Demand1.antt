@@ -40,7 +40,7 @@ abbrev pub GoodHalfFont : Seen → Type 0
 GoodHalfFont e = length (e .fonts .half) ≡ 2048
 
 abbrev pub GoodFullFont : Seen → Type 0
-GoodFullFont e = (length (e .fonts .full) % 32 ≡ 0) × (length (e .fonts .full) ≤ 267264)
+GoodFullFont e = (length (e .fonts .full) % 32 ≡ 0) × (length (e .fonts .full) ≤ 281600)
 
 -- The table of refusal numbers, "when, and only then", in its order; `wants` says whether the call lets time pass on a panel that has
 -- none, `other` whether it is of the other link.
@@ -100,7 +100,7 @@ pub record Allowed (kind value : ℕ) : Type 0 where
   pub statusRead : kind ≡ 2 → value ≡ 0
   pub dataRead : kind ≡ 3 → value ≡ 0
   pub selectLow : kind ≡ 5 → value ≡ 0
-  pub reset : kind ≡ 6 → value ≤ 1
+  pub reset : kind ≡ 6 → value ≤ 3
 
 -- what stands at the beginning of a capture, to a panel with or without time, with its number: 6 to 9 in their order; 0 for the end, and
 -- for a record

@@ -29,6 +29,7 @@ use Rattle.demands.specs.Stored.{WordsStored}
 use Rattle.demands.specs.ReadBack.{ReadBack}
 use Rattle.demands.specs.Lost.{LostWhenBusy, Costs, LostLeavesAll, QuietCallsCostNothing, CarriedOutUnlessLost, StatusShowsBusy, PassFalls, TimeIsKept, FreshIsNotBusy}
 use Rattle.demands.specs.Direction.{ClearTurns, HomeDoesNot, OthersDoNot, ElseAsHome}
+use Rattle.demands.specs.Numbered.{NoTwoShare, EachIsSomeCodes, NoneBeyond, OthersAsBefore, EndNotAskedFor, ShownByNumber, ChosenWhenMade, ChosenAtReset, KeptOtherwise, SeenInPictureAlone, NamesTheSame}
 use Rattle.demands.specs.WithoutTime.{AsBeforeTime, NoTimePasses}
 use Rattle.demands.specs.Waiting.{WaitingIsServed, WaitingSenderIsServed}
 use Rattle.demands.specs.Agreement.{CallIsConnected, SentIsReceived, WritesAreReceived, CarriedOutWhereNoneLost, NoneLostWithoutTime, LinksAgree, FunctionSetsKeepDl}
@@ -123,6 +124,19 @@ pub record Demand2 : Type 0 where
   pub turnsNotByHome : HomeDoesNot
   pub turnsNotByOthers : OthersDoNot
   pub elseAsHome : ElseAsHome
+  -- two numberings, in each of which no two codes share a number; a panel's is chosen when it is made and at reset, and shows in the
+  -- picture alone
+  pub numbersOnce : NoTwoShare
+  pub numbersAll : EachIsSomeCodes
+  pub numbersNoMore : NoneBeyond
+  pub othersAsBefore : OthersAsBefore
+  pub endNotAskedFor : EndNotAskedFor
+  pub shownByNumber : ShownByNumber
+  pub chosenWhenMade : ChosenWhenMade
+  pub chosenAtReset : ChosenAtReset
+  pub keepsNumbering : KeptOtherwise
+  pub seenAlone : SeenInPictureAlone
+  pub namesTheSame : NamesTheSame
   -- with time: what a busy panel loses, what every other transfer does and costs, and how time passes
   pub loses : LostWhenBusy
   pub leaves : LostLeavesAll

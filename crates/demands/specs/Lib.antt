@@ -9,6 +9,7 @@ pub mod Lost
 pub mod Direction
 pub mod WithoutTime
 pub mod Waiting
-pub mod Demand2
 pub mod Demand3
+pub mod Numbered
+pub mod Demand2
 pub mod Tight

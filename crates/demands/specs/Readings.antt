@@ -1,7 +1,7 @@
 -- Document 01, "Panel readings to be proved": one statement over one table; and one each over a second, of a panel with time (request K1),
--- and a third, of a clear that turns the direction (K2). Each row has the calls made from fresh and what is read off then, by the definitions
--- that the contracts of the public calls cite. `ReadingsHold`, `TimedReadingsHold` and `TurnedReadingsHold` are proved in proofs/, as
--- `readings-hold`, `timed-readings-hold` and `turned-readings-hold`.
+-- a third, of a clear that turns the direction (K2), and a fourth, of the numberings (K3). Each row has the calls made from fresh and what is
+-- read off then, by the definitions that the contracts of the public calls cite. `ReadingsHold`, `TimedReadingsHold`, `TurnedReadingsHold` and
+-- `NumberedReadingsHold` are proved in proofs/, as `readings-hold`, `timed-readings-hold`, `turned-readings-hold` and `numbered-readings-hold`.
 use Prim.{Unit}
 use Prim.Native.Nat.{ℕ, _+_, _*_}
 use mathlib.Core.Bool.{Bool, true, false}
@@ -9,13 +9,16 @@ use mathlib.Core.List.{List, [], _∷_, map}
 use mathlib.Core.Path.{_≡_}
 use lib.ListN.{replicate, getD}
 use Rattle.controller.specs.Memories.{wordPlace, graphicPlace, freshMemories}
+use Rattle.events.specs.declared.Numbering.{Numbering}
+use Rattle.events.specs.declared.Numbering.the-variants.{By96, By160}
 use Rattle.events.specs.declared.Event.{Event}
-use Rattle.events.specs.declared.Event.the-variants.{Transfer, Bit, Pass}
+use Rattle.events.specs.declared.Event.the-variants.{Transfer, Bit, Reset, Pass}
 use Rattle.events.specs.declared.Transfer.the-variants.{Instruct, Write, Status, Read}
 use Rattle.connector.specs.Items.{bitsOf}
-use Rattle.glyph.specs.declared.Code.the-variants.{Number}
-use Rattle.glyph.specs.Numbering.{numberOf}
+use Rattle.numbering.specs.declared.Code.the-variants.{Unnumbered, Number}
+use Rattle.numbering.specs.Numbering.{numberOf}
 use Rattle.picture.specs.Picture.{Seen}
+use Rattle.records.specs.Records.{pinOf}
 use Rattle.events.specs.declared.Made.{Made}
 use Rattle.calls.specs.State.{State, freshState}
 use Rattle.calls.specs.Calls.{afterCalls}
@@ -37,12 +40,15 @@ readData = Transfer Read
 abbrev pub letPass : ℕ → Event
 letPass eights = Pass eights
 
+abbrev pub resetTo : ℕ → Event
+resetTo value = Reset (pinOf value)
+
 -- serial bytes, bit by bit with chip select high
 abbrev pub serialBytes : List ℕ → List Event
 serialBytes bs = map Bit (bitsOf bs)
 
 -- what is read off: of all calls in their order the replies, the counts or the refusal numbers; at the end a word of text or graphic
--- memory, RE and G, or that the memories are as fresh; or the number of a glyph's code
+-- memory, RE and G, that the memories are as fresh, or the numbering; or the number of a glyph's code, or that it has none
 pub data Reading : Type 0 where
   replies : List ℕ → Reading
   counts : List ℕ → Reading
@@ -51,7 +57,9 @@ pub data Reading : Type 0 where
   graphicWord : ℕ → ℕ → ℕ → Reading
   reAndG : Bool → Bool → Reading
   nothingStored : Reading
-  glyphNumber : ℕ → ℕ → ℕ → Reading
+  numbering : Numbering → Reading
+  glyphNumber : Numbering → ℕ → ℕ → ℕ → Reading
+  noNumber : Numbering → ℕ → ℕ → Reading
 
 -- a case: its number, what the panel is made with, the frame's length, the calls, and the readings
 pub record Case : Type 0 where
@@ -62,16 +70,16 @@ pub record Case : Type 0 where
   pub readings : List Reading
 
 abbrev pub inCase : ℕ → List Event → List Reading → Case
-inCase number calls readings = record { number = number; made = record { parallel = true; time = false }; frame = 1024; calls = calls; readings = readings }
+inCase number calls readings = record { number = number; made = record { parallel = true; time = false; numbering = By96 }; frame = 1024; calls = calls; readings = readings }
 
 abbrev pub inSerialCase : ℕ → List Event → List Reading → Case
-inSerialCase number calls readings = record { number = number; made = record { parallel = false; time = false }; frame = 1024; calls = calls; readings = readings }
+inSerialCase number calls readings = record { number = number; made = record { parallel = false; time = false; numbering = By96 }; frame = 1024; calls = calls; readings = readings }
 
 abbrev pub inFramedCase : ℕ → ℕ → List Event → List Reading → Case
-inFramedCase number length calls readings = record { number = number; made = record { parallel = true; time = false }; frame = length; calls = calls; readings = readings }
+inFramedCase number length calls readings = record { number = number; made = record { parallel = true; time = false; numbering = By96 }; frame = length; calls = calls; readings = readings }
 
 abbrev pub inTimedCase : ℕ → List Event → List Reading → Case
-inTimedCase number calls readings = record { number = number; made = record { parallel = true; time = true }; frame = 1024; calls = calls; readings = readings }
+inTimedCase number calls readings = record { number = number; made = record { parallel = true; time = true; numbering = By96 }; frame = 1024; calls = calls; readings = readings }
 
 unfoldable pub cases : List Case
 cases =
@@ -88,7 +96,7 @@ cases =
     ∷ inCase 7 (instruct 0x36 ∷ instruct 0x36 ∷ []) (reAndG true true ∷ [])
     ∷ inCase 8 (instruct 0x34 ∷ instruct 0x36 ∷ instruct 0x83 ∷ instruct 0x8F ∷ writeData 0xAA ∷ writeData 0x55 ∷ readStatus ∷ [])
     (graphicWord 3 15 0xAA55 ∷ replies (0 ∷ 0 ∷ 0 ∷ 0 ∷ 0 ∷ 0 ∷ 0x00 ∷ []) ∷ [])
-    ∷ inCase 9 [] (glyphNumber 0xA1 0xA0 0 ∷ glyphNumber 0xF7 0xFF 8351 ∷ [])
+    ∷ inCase 9 [] (glyphNumber By96 0xA1 0xA0 0 ∷ glyphNumber By96 0xF7 0xFF 8351 ∷ [])
     ∷ inFramedCase 10 1023 (readStatus ∷ []) (numbers (1 ∷ []) ∷ [])
     ∷ inFramedCase 10 1025 (readStatus ∷ []) (numbers (1 ∷ []) ∷ [])
     ∷ inSerialCase 11 (serialBytes (0xFA ∷ 0x20 ∷ 0xD0 ∷ [])) (textWord 0 0x2D20 ∷ [])
@@ -162,6 +170,38 @@ turnedCases =
     (textWord 0 0x2D37 ∷ replies (0 ∷ 0 ∷ 0 ∷ 0 ∷ 0 ∷ 0 ∷ 0 ∷ 0x3F ∷ []) ∷ counts (1024 ∷ 0 ∷ 0 ∷ 32 ∷ 0 ∷ 32 ∷ 0 ∷ 0 ∷ []) ∷ [])
     ∷ []
 
+-- the same of the numberings. 1: both ends of both ranges of trails, the next lead, and the last number. 2: what has none: trails before
+-- and between the ranges, leads before and behind theirs. 3: fresh has the numbering that it is made with, here the old one; a reset to
+-- value 3 chooses the new one, and a clear, an address and data keep it. 4: a reset to value 1 chooses the old one again. 5: a reset to
+-- value 2 makes the panel serial, with the new one
+unfoldable pub numberedCases : List Case
+numberedCases =
+    inCase 1 []
+    (glyphNumber By160 0xA1 0x40 0
+    ∷ glyphNumber By160 0xA1 0x7F 63
+    ∷ glyphNumber By160 0xA1 0xA0 64
+    ∷ glyphNumber By160 0xA1 0xFF 159
+    ∷ glyphNumber By160 0xA2 0x40 160
+    ∷ glyphNumber By160 0xD7 0xFF 8799
+    ∷ [])
+    ∷ inCase 2 []
+    (noNumber By160 0xA1 0x3F
+    ∷ noNumber By160 0xA1 0x80
+    ∷ noNumber By160 0xA1 0x9F
+    ∷ noNumber By160 0xA0 0x40
+    ∷ noNumber By160 0xD8 0x40
+    ∷ noNumber By96 0xA0 0xA0
+    ∷ noNumber By96 0xA1 0x40
+    ∷ noNumber By96 0xA1 0x9F
+    ∷ noNumber By96 0xF8 0xA0
+    ∷ [])
+    ∷ inCase 3 [] (numbering By96 ∷ [])
+    ∷ inCase 3 (resetTo 3 ∷ instruct 0x01 ∷ instruct 0x80 ∷ writeData 0xA1 ∷ writeData 0x40 ∷ [])
+    (numbering By160 ∷ textWord 0 0xA140 ∷ counts (1024 ∷ 1024 ∷ 32 ∷ 32 ∷ 64 ∷ []) ∷ [])
+    ∷ inCase 4 (resetTo 3 ∷ resetTo 1 ∷ readStatus ∷ []) (numbering By96 ∷ numbers (0 ∷ 0 ∷ 0 ∷ []) ∷ [])
+    ∷ inCase 5 (resetTo 2 ∷ serialBytes (0xFA ∷ 0x20 ∷ 0xD0 ∷ [])) (numbering By160 ∷ textWord 0 0x2D20 ∷ [])
+    ∷ []
+
 -- seen with a zero half font, an empty full font and phase 0; each row's frame is zero too
 abbrev pub zeroFonts : Seen
 zeroFonts = record { fonts = record { half = replicate 2048 0; full = [] }; phase = false }
@@ -196,7 +236,9 @@ Reads o (graphicWord line column value) =
     wordOf (o .end .memories .graphic) (graphicPlace line column false) (graphicPlace line column true) ≡ value
 Reads o (reAndG re g) = (o .end .control .function .re ≡ re) × (o .end .control .function .g ≡ g)
 Reads o nothingStored = o .end .memories ≡ freshMemories
-Reads o (glyphNumber lead trail number) = numberOf lead trail ≡ Number number
+Reads o (numbering n) = o .end .control .view .numbering ≡ n
+Reads o (glyphNumber n lead trail number) = numberOf n lead trail ≡ Number number
+Reads o (noNumber n lead trail) = numberOf n lead trail ≡ Unnumbered
 
 unfoldable pub AllRead : Observed → List Reading → Type 0
 AllRead o [] = Unit {0}
@@ -214,3 +256,6 @@ TimedReadingsHold = AllHold timedCases
 
 abbrev pub TurnedReadingsHold : Type 0
 TurnedReadingsHold = AllHold turnedCases
+
+abbrev pub NumberedReadingsHold : Type 0
+NumberedReadingsHold = AllHold numberedCases

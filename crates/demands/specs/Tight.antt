@@ -107,7 +107,7 @@ pub record Taking : Type 0 where
   pub time : Bool
   pub answer : Answer
 
--- what the exported replay is given: the pin and whether there is time, fonts and phase, the capture, and the three buffers that it may write
+-- what the exported replay is given: what the panel is made with, fonts and phase, the capture, and the three buffers that it may write
 pub record Exported : Type 0 where
   pub made : Made
   pub seen : Seen
