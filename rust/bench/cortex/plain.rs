@@ -18,7 +18,7 @@ pub extern "C" fn blocks_draw(
     screen: &state::Screen,
     frame: &mut [u8; 1024],
     half: &[u8; 2048],
-    full: &[u8; 267_264],
+    full: &[u8; state::FULL_FONT_LIMIT],
 ) {
     blocks::draw(screen, frame, half, full, true);
 }
@@ -28,7 +28,7 @@ pub extern "C" fn bytewise_draw(
     screen: &state::Screen,
     frame: &mut [u8; 1024],
     half: &[u8; 2048],
-    full: &[u8; 267_264],
+    full: &[u8; state::FULL_FONT_LIMIT],
 ) {
     bytewise::draw(screen, frame, half, full, true);
 }

@@ -16,9 +16,11 @@ void blocks_draw(const byte *screen, byte *frame, const byte *half, const byte *
 void bytewise_draw(const byte *screen, byte *frame, const byte *half, const byte *full);
 word plain_turns(byte what, word times);
 
-/* Put in by screens.s: four screens of text, glyph, graphic, controls and picture; the fonts. */
-#define SCREEN (128 + 128 + 2048 + 26 + 1024)
-extern const byte screens[4][SCREEN], half[2048], full[267264];
+/* Put in by screens.s: screens of text, glyph, graphic, controls and picture; the fonts. */
+#define SCREENS 5
+#define CONTROL_AT (128 + 128 + 2048)
+#define PICTURE_AT (CONTROL_AT + 27)
+extern const byte screens[SCREENS][PICTURE_AT + 1024], half[2048], full[281600];
 
 static byte frame[1024];
 
@@ -55,7 +57,7 @@ static void report(word count) {
 
 /* The three drawings of a screen, each held to its picture. */
 static void proved(const byte *s) {
-    zifqarell_draw(s, s + 128, s + 256, s + 2304, frame, 1024, half, 2048, full, sizeof full, 1);
+    zifqarell_draw(s, s + 128, s + 256, s + CONTROL_AT, frame, 1024, half, 2048, full, sizeof full, 1);
 }
 static void bytewise(const byte *s) { bytewise_draw(s, frame, half, full); }
 static void blocks(const byte *s) { blocks_draw(s, frame, half, full); }
@@ -67,7 +69,7 @@ static void draw(void (*one)(const byte *), const byte *s) {
     for (word turn = 0; turn < DRAWS; turn++) one(s);
     word count = stop(DRAWS);
     for (word i = 0; i < 1024; i++)
-        if (frame[i] != s[2330 + i]) {
+        if (frame[i] != s[PICTURE_AT + i]) {
             print(" | another picture");
             return;
         }
@@ -75,8 +77,9 @@ static void draw(void (*one)(const byte *), const byte *s) {
 }
 
 static void draw_all(void) {
-    static const char *const names[4] = {"\n| draw, text", "\n| draw, glyph", "\n| draw, graphic", "\n| draw, mixed"};
-    for (word k = 0; k < 4; k++) {
+    static const char *const names[SCREENS] = {"\n| draw, text", "\n| draw, glyph", "\n| draw, graphic", "\n| draw, mixed",
+                                               "\n| draw, traditional"};
+    for (word k = 0; k < SCREENS; k++) {
         print(names[k]);
         draw(bytewise, screens[k]);
         draw(blocks, screens[k]);

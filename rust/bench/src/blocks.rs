@@ -30,7 +30,7 @@ impl<'a> Look<'a> {
     ) -> Result<(&'b mut [u8; 1024], Look<'a>), u8> {
         let frame = frame.try_into().map_err(|_| 1)?;
         let half = half.try_into().map_err(|_| 2)?;
-        if !full.len().is_multiple_of(32) || full.len() > 267_264 {
+        if !full.len().is_multiple_of(32) || full.len() > FULL_FONT_LIMIT {
             return Err(3);
         }
         Ok((frame, Look { half, full, phase }))
@@ -68,11 +68,10 @@ pub fn shown<'a>(s: &'a Screen, look: Look<'a>, word: usize) -> Shown<'a> {
     let (high, low) = (s.text[2 * word], s.text[2 * word + 1]);
     match (high, low) {
         (0, 0..=0x0F) => Shown::Together(together(&s.glyph, 32 * (low / 2 % 4) as usize)),
-        (0xA1..=0xF7, 0xA0..) => {
-            let number = (high as usize - 0xA1) * 96 + (low as usize - 0xA0);
-            Shown::Together(together(look.full, 32 * number))
-        }
-        (0xA1.., _) => Shown::Together(&BLANK),
+        (0xA1.., _) => Shown::Together(match s.full_glyph(high, low) {
+            Some(at) => together(look.full, at),
+            None => &BLANK,
+        }),
         _ => Shown::Beside(half_glyph(look.half, high), half_glyph(look.half, low)),
     }
 }

@@ -38,11 +38,10 @@ fn tile(s: &Screen, f: Look, word: usize) -> Tile {
     let (high, low) = (s.text[2 * word], s.text[2 * word + 1]);
     match (high, low) {
         (0, 0..=0x0F) => pairs(&s.glyph, 32 * (low / 2 % 4) as usize),
-        (0xA1..=0xF7, 0xA0..) => {
-            let number = (high as usize - 0xA1) * 96 + (low as usize - 0xA0);
-            pairs(f.full, 32 * number)
-        }
-        (0xA1.., _) => [[0; 2]; 16],
+        (0xA1.., _) => match s.full_glyph(high, low) {
+            Some(at) => pairs(f.full, at),
+            None => [[0; 2]; 16],
+        },
         _ => columns(half(f, high), half(f, low)),
     }
 }

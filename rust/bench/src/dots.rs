@@ -1,6 +1,19 @@
 //! The picture in plain Rust, dot by dot, as document 01 says it.
 use crate::screen::*;
 
+/// The number of a full glyph by the screen's numbering, for leads from A1h on.
+fn number(s: &Screen, lead: usize, trail: usize) -> Option<usize> {
+    if s.control[NUMBERING] == BY_160 {
+        let place = match trail {
+            0x40..=0x7F => trail - 0x40,
+            0xA0.. => 64 + trail - 0xA0,
+            _ => return None,
+        };
+        return (lead <= 0xD7).then_some((lead - 0xA1) * 160 + place);
+    }
+    (lead <= 0xF7 && trail >= 0xA0).then(|| (lead - 0xA1) * 96 + trail - 0xA0)
+}
+
 /// Whether the dot `x` of glyph row `y` of a text word is set, before cursor and the rest.
 fn glyph_dot(s: &Screen, f: &Fonts, word: usize, y: usize, x: usize) -> bool {
     let (high, low) = (s.text[2 * word], s.text[2 * word + 1]);
@@ -8,10 +21,9 @@ fn glyph_dot(s: &Screen, f: &Fonts, word: usize, y: usize, x: usize) -> bool {
         let image = (low / 2 % 4) as usize;
         s.glyph[2 * (16 * image + y) + x / 8]
     } else if high >= 0xA1 {
-        if high > 0xF7 || low < 0xA0 {
+        let Some(number) = number(s, high as usize, low as usize) else {
             return false;
-        }
-        let number = (high as usize - 0xA1) * 96 + (low as usize - 0xA0);
+        };
         if 32 * number + 32 > f.full.len() {
             return false;
         }

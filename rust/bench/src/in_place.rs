@@ -43,11 +43,12 @@ enum Region {
 }
 
 impl Panel {
-    pub fn fresh(time: bool) -> Panel {
-        let mut control = [0; 26];
+    pub fn fresh(time: bool, numbering: u8) -> Panel {
+        let mut control = [0; CONTROL];
         control[ID] = 1;
         control[DL] = 1;
         control[TIMED] = time as u8;
+        control[NUMBERING] = numbering;
         Panel {
             screen: Screen {
                 text: [0x20; 128],

@@ -3,7 +3,8 @@
 //!     bench                        times all of it, and prints tables of ratios
 //!     bench draws|writes|replays|programs    only these
 //!     bench turns text|images|graphic       does a million turns of that and prints a number, as `timing` does
-//!     bench agree                  holds the plain Rust panel that is timed to the proved code, on random captures
+//!     bench agree                  holds the plain Rust that is timed to the proved code: the panel on random captures, the drawings on
+//!                                  every text word
 //!     bench pictures FOLDER        holds the proved pictures to those stored in FOLDER, a line 'ok ..' each
 //!     bench screens FOLDER         stores the screens, each with its picture, and the fonts, as bytes alone
 //!     bench write-pictures FOLDER  stores the pictures that plain Rust draws dot by dot
@@ -24,7 +25,7 @@ mod writes;
 use screen::*;
 
 /// The fonts and the screens that every run draws.
-fn scenes() -> (Fonts, [(&'static str, Screen); 4]) {
+fn scenes() -> (Fonts, [(&'static str, Screen); 5]) {
     let mut random = Random(0x5EED_0007);
     let fonts = fonts(&mut random);
     let screens = [
@@ -32,6 +33,10 @@ fn scenes() -> (Fonts, [(&'static str, Screen); 4]) {
         ("glyph", screen(Words::Glyphs, false, &mut random)),
         ("graphic", screen(Words::Spaces, true, &mut random)),
         ("mixed", screen(Words::Mixed, true, &mut random)),
+        (
+            "traditional",
+            screen(Words::Traditional, false, &mut random),
+        ),
     ];
     (fonts, screens)
 }
@@ -66,6 +71,10 @@ fn main() {
         ["agree"] => {
             replays::agree(&fonts);
             println!("ok plain Rust in place: as the proved code on random captures");
+            draws::agree(&fonts);
+            println!(
+                "ok plain Rust drawings: as the proved code on every text word, by both numberings"
+            );
         }
         ["pictures", folder] => passed = pictures::compare(folder, &fonts, &screens),
         ["screens", folder] => passed = pictures::raw(folder, &fonts, &screens),

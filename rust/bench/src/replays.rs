@@ -1,8 +1,8 @@
 //! Records of one sort, many in a row, replayed over the boundary, and the parallel ones by plain Rust in place.
 use crate::in_place::{Answer, Panel, Transfer};
-use crate::screen::{Fonts, Random, TIMED};
+use crate::screen::{Fonts, Random, BY_160, BY_96, TIMED};
 use crate::timing::in_turn;
-use proved::{Lent, Memories};
+use proved::{Lent, Made, Memories, Numbering};
 use std::hint::black_box;
 
 const RECORDS: usize = 1_000;
@@ -134,11 +134,15 @@ fn in_place(
 }
 
 /// Holds plain Rust in place to the proved code, so that what is timed does the same: random transfers, half bytes among them, without
-/// time and with it.
+/// time and with it, by either numbering.
 pub fn agree(fonts: &Fonts) {
     let mut random = Random(0x5EED_0009);
     for turn in 0..400 {
         let time = turn >= 200;
+        let (packed, numbering) = match turn / 2 % 2 {
+            0 => (BY_96, Numbering::By96),
+            _ => (BY_160, Numbering::By160),
+        };
         let mut capture = Vec::new();
         for _ in 0..200 {
             let kind = [0, 0, 1, 1, 1, 2, 3, 3][random.byte() as usize % 8];
@@ -150,9 +154,14 @@ pub fn agree(fonts: &Fonts) {
         }
         let lent = fonts.lent(turn % 2 == 1);
         let mut frames = [[0u8; 1024]; 2];
-        let mut panel = Panel::fresh(time);
+        let mut panel = Panel::fresh(time, packed);
         let (accepted, last) = in_place(&mut panel, &capture, &mut frames[0], lent);
-        let Ok(ended) = proved::replay(true, time, &capture, &mut frames[1], lent) else {
+        let made = Made {
+            parallel: true,
+            time,
+            numbering,
+        };
+        let Ok(ended) = proved::replay(made, &capture, &mut frames[1], lent) else {
             panic!("refused");
         };
         let memories = Memories::of(&ended.state);
@@ -177,23 +186,22 @@ pub fn measure(fonts: &Fonts) {
         let capture = sort.capture();
         let records = capture.len() as f64 / 4.0;
         let lent = fonts.lent(false);
+        let made = Made {
+            parallel: sort.parallel,
+            time: false,
+            numbering: Numbering::By96,
+        };
         let mut frames = [[0u8; 1024]; 2];
         let [theirs, ours] = &mut frames;
         let [plain, proved] = in_turn(
             BATCHES,
             [
                 (1, &mut || {
-                    let mut panel = Panel::fresh(false);
+                    let mut panel = Panel::fresh(false, BY_96);
                     black_box(in_place(&mut panel, black_box(&capture), theirs, lent));
                 }),
                 (1, &mut || {
-                    let _ = black_box(proved::replay(
-                        sort.parallel,
-                        false,
-                        black_box(&capture),
-                        ours,
-                        lent,
-                    ));
+                    let _ = black_box(proved::replay(made, black_box(&capture), ours, lent));
                 }),
             ],
         );

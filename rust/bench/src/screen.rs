@@ -45,11 +45,14 @@ impl Random {
     }
 }
 
+/// The end of the full font, which the new numbering alone reads, has a generator of its own, so that it moves no screen of the old one:
+/// those come after the fonts, and are stored as pictures.
 pub fn fonts(random: &mut Random) -> Fonts {
-    Fonts {
-        half: (0..2048).map(|_| random.byte()).collect(),
-        full: (0..267_264).map(|_| random.byte()).collect(),
-    }
+    let half = (0..2048).map(|_| random.byte()).collect();
+    let mut full: Vec<u8> = (0..267_264).map(|_| random.byte()).collect();
+    let mut end = Random(0x5EED_000A);
+    full.resize_with(FULL_FONT_LIMIT, || end.byte());
+    Fonts { half, full }
 }
 
 /// What a screen shows in its text memory.
@@ -59,6 +62,8 @@ pub enum Words {
     Letters,
     Glyphs,
     Mixed,
+    /// Full glyphs of the new numbering, of both ranges, and the codes between them and behind the last lead.
+    Traditional,
 }
 
 fn word(words: Words, random: &mut Random) -> [u8; 2] {
@@ -72,6 +77,7 @@ fn word(words: Words, random: &mut Random) -> [u8; 2] {
             2 => word(Words::Letters, random),
             _ => [random.byte(), random.byte()],
         },
+        Words::Traditional => [0xA1 + random.byte() % 0x38, 0x40 + random.byte() % 0xC0],
     }
 }
 
@@ -80,7 +86,7 @@ pub fn screen(words: Words, graphics: bool, random: &mut Random) -> Screen {
         text: [0; 128],
         glyph: [0; 128],
         graphic: [0; 2048],
-        control: [0; 26],
+        control: [0; CONTROL],
     };
     for k in 0..64 {
         let [high, low] = word(words, random);
@@ -99,5 +105,8 @@ pub fn screen(words: Words, graphics: bool, random: &mut Random) -> Screen {
     screen.control[SCROLL] = random.byte() % 64;
     screen.control[SHIFT] = random.byte() % 16;
     screen.control[REVERSED + 1] = 1;
+    if let Words::Traditional = words {
+        screen.control[NUMBERING] = BY_160;
+    }
     screen
 }

@@ -1,6 +1,7 @@
 //! Turns of one thing, as the proved program `timing` does them, in plain Rust in place: the same transfers, the same
 //! lent frame and fonts, the same number printed at the end.
 use crate::in_place::{Panel, Transfer};
+use crate::state::BY_96;
 
 fn mixed(sum: u32, with: usize) -> u32 {
     (sum % 65536) * 31 + (with % 65536) as u32
@@ -50,7 +51,7 @@ fn turn(what: u8, i: u32) -> Transfer {
 
 /// So many turns; the first letter says of what, as with `timing`. Answers the number that `timing` prints.
 pub fn run(what: u8, times: u32) -> u32 {
-    let mut panel = Panel::fresh(false);
+    let mut panel = Panel::fresh(false, BY_96);
     let mut frame = [0u8; 1024];
     let half = [0u8; 2048];
     let full = [0u8; 32];

@@ -1,10 +1,10 @@
 //! Random captures: whole ones, damaged ones, and with buffers that are refused.
-use crate::case::Case;
+use crate::case::{Case, NUMBERINGS, OLD_END};
 use crate::compare::From;
 use crate::damage::damage;
 use crate::random::Random;
 use crate::scenes::{self, play};
-use crate::wire::{Link, Wire, PASS};
+use crate::wire::{Link, Wire, PASS, RESET, SELECT_LOW};
 use model::{FRAME_LENGTH, FULL_FONT_LIMIT, HALF_FONT_LENGTH};
 
 /// A capture as a meter's, with noise; every record of a short one is compared, of a long one the last ones, since each is compared
@@ -69,7 +69,9 @@ pub fn any_records(time: bool, mut random: Random) -> (Case, From) {
         let kind = if parallel { random.below(4) } else { 4 } as u8;
         let (kind, value) = match (random.below(24), kind) {
             (0, _) => (random.below(9) as u8, random.byte()),
-            (1, _) => (random.pick(&[5, 6]), random.below(2) as u8),
+            // Up to the first value that is not allowed.
+            (1, _) if random.flag() => (SELECT_LOW, random.below(2) as u8),
+            (1, _) => (RESET, random.below(5) as u8),
             // 72 microseconds are nine times eight, 1,600 two hundred times.
             (2..=9, _) if time => (PASS, random.pick(&[0, 1, 8, 9, 10, 199, 200, 255])),
             (_, 2 | 3) => (kind, 0),
@@ -115,6 +117,8 @@ pub fn refused(time: bool, random: Random) -> (Case, From) {
             31,
             33,
             odd,
+            OLD_END - 1,
+            OLD_END + 1,
             FULL_FONT_LIMIT - 1,
             FULL_FONT_LIMIT + 1,
             FULL_FONT_LIMIT + 32,
@@ -124,12 +128,13 @@ pub fn refused(time: bool, random: Random) -> (Case, From) {
     (case, From(0))
 }
 
-/// A long capture for the program `replay`, now and then damaged. It begins parallel, and changes over by resets.
+/// A long capture for the program `replay`, now and then damaged. It begins parallel with the old numbering, and changes over by resets.
 pub fn to_print(time: bool, mut random: Random, records: usize) -> Vec<u8> {
     let mut own = random.clone();
     let parallel = !random.once_in(3);
+    let numbering = random.pick(&NUMBERINGS);
     let mut wire = Wire::new(true, time, random);
-    wire.reset(parallel);
+    wire.reset(parallel, numbering);
     begin(&mut wire);
     play(&mut wire, records);
     wire.fill_record();

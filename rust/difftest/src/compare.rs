@@ -4,7 +4,7 @@
 //! its reply, its count, the whole state and the whole frame right after it are compared. The model goes on record by record.
 use crate::case::Case;
 use crate::names::{frame_place, state_place};
-use model::{Panel, Replayed};
+use model::{Numbering, Panel, Replayed};
 use proved::{Memories, Refused};
 
 /// Which records are compared: from a place on, and the last.
@@ -18,6 +18,8 @@ pub struct Tally {
     pub records: u64,
     /// These by their kind, 0 to 7.
     pub kinds: [u64; 8],
+    /// Those that left a panel of the new numbering.
+    pub by_new: u64,
     /// Transfers among them that were lost to a busy panel and that an idle one would have carried out, and those that made it busy.
     pub lost: u64,
     pub in_time: u64,
@@ -43,7 +45,7 @@ struct Expected<'a> {
 
 /// Replays the case on both sides; answers what differs first, if anything does.
 pub fn compare(case: &Case, from: From, tally: &mut Tally) -> Option<String> {
-    let mut panel = Panel::made(case.parallel, case.time);
+    let mut panel = case.panel();
     let mut frame = case.frame.clone();
     // Once a record has named every byte, the frame is the picture.
     let mut whole = false;
@@ -87,6 +89,7 @@ pub fn compare(case: &Case, from: From, tally: &mut Tally) -> Option<String> {
             (_, true) => {
                 tally.records += 1;
                 tally.kinds[usize::from(case.capture[begin + 2])] += 1;
+                tally.by_new += u64::from(panel.numbering == Numbering::New);
                 if let Some(before) = before {
                     count_time(case, record, before, &panel, tally);
                 }
@@ -124,7 +127,7 @@ fn over_the_boundary(
     let mut frame = case.frame.clone();
     let capture = &case.capture[..length];
     let after = format!("after {length} bytes of the capture");
-    let ended = match proved::replay(case.parallel, case.time, capture, &mut frame, case.lent()) {
+    let ended = match proved::replay(case.made(), capture, &mut frame, case.lent()) {
         Ok(ended) => ended,
         Err(refused) => return refused_as_a_call(case, &refused, &frame, expected, tally),
     };
@@ -168,7 +171,7 @@ fn refused_as_a_call(
     if !refused.kept {
         return Some("a refused replay wrote its state or its last answers".to_string());
     }
-    let state = expected.panel.bytes().try_into().expect("2,340 bytes");
+    let state = expected.panel.bytes().try_into().expect("2,341 bytes");
     bytes("the refused call", "frame", frame_place, frame, &case.frame)
         .or_else(|| drawn(case, &state, expected, false, tally))
 }

@@ -1,12 +1,14 @@
 //! Whole draws of states that are made up, also of those that no capture is likely to reach.
+use crate::case::{full_length, NUMBERINGS};
 use crate::compare::{bytes, Tally};
 use crate::names::frame_place;
 use crate::random::Random;
 use crate::scenes::word;
 use model::{
-    full_glyph_number, Half, Panel, Target, FRAME_LENGTH, FULL_FONT_LIMIT, HALF_FONT_LENGTH,
+    full_glyph_number, Half, Numbering, Panel, Target, FRAME_LENGTH, FULL_FONT_LIMIT,
+    HALF_FONT_LENGTH,
 };
-use proved::{Lent, Memories};
+use proved::{Lent, Memories, CONTROL, CONTROL_AT};
 
 /// A state at random, within its ranges, its link idle.
 pub fn panel(random: &mut Random) -> Panel {
@@ -46,6 +48,7 @@ pub fn panel(random: &mut Random) -> Panel {
     if panel.time {
         panel.left = random.below(1_601) as u16;
     }
+    panel.numbering = random.pick(&NUMBERINGS);
     panel
 }
 
@@ -77,7 +80,7 @@ fn same(
 }
 
 fn state(panel: &Panel) -> [u8; proved::STATE] {
-    panel.bytes().try_into().expect("a state is 2,340 bytes")
+    panel.bytes().try_into().expect("a state is 2,341 bytes")
 }
 
 /// A state that is made up. The boundary takes a control's byte by the bits that it should have, so the others are anything.
@@ -88,8 +91,8 @@ pub fn made_up(random: &mut Random, tally: &mut Tally) -> Option<String> {
         spoil(&mut state, &panel, random);
     }
     let half = random.bytes(HALF_FONT_LENGTH);
-    let full = 32 * random.below(200);
-    let full = random.bytes(full);
+    let length = full_length(random);
+    let full = random.bytes(length);
     let lent = Lent {
         half: &half,
         full: &full,
@@ -105,7 +108,7 @@ fn spoil(state: &mut [u8; proved::STATE], panel: &Panel, random: &mut Random) {
     } else {
         0xC0
     };
-    for (at, control) in state[2304..2330].iter_mut().enumerate() {
+    for (at, control) in state[CONTROL_AT..][..CONTROL].iter_mut().enumerate() {
         *control |= random.byte()
             & match at {
                 0 => 0xFC,
@@ -118,7 +121,7 @@ fn spoil(state: &mut [u8; proved::STATE], panel: &Panel, random: &mut Random) {
     }
 }
 
-/// Every word there is, 32 to a screen, with a full font of any length.
+/// Every word there is, 32 to a screen, by both numberings, with a full font of any length.
 pub fn every_word(random: &mut Random, tally: &mut Tally) -> Option<String> {
     let half = random.bytes(HALF_FONT_LENGTH);
     let longest = random.bytes(FULL_FONT_LIMIT);
@@ -138,22 +141,40 @@ pub fn every_word(random: &mut Random, tally: &mut Tally) -> Option<String> {
             full: &longest[..length],
             phase: false,
         };
-        let different = same(&shown, &state(&shown), lent, tally);
-        if different.is_some() {
-            return different;
+        for numbering in NUMBERINGS {
+            shown.numbering = numbering;
+            if let Some(what) = same(&shown, &state(&shown), lent, tally) {
+                return Some(format!(
+                    "{numbering:?} numbering, words from {first:04X}: {what}"
+                ));
+            }
         }
     }
     None
 }
 
-/// Every allowed length of the full font, with the glyphs on both sides of its end; and lengths that are refused.
+/// The words that have a number, from the first.
+fn numbered(numbering: Numbering) -> Vec<u16> {
+    let words = 0xA100..=0xFFFF;
+    let is_one =
+        |word: &u16| full_glyph_number(numbering, (word >> 8) as u8, *word as u8).is_some();
+    words.filter(is_one).collect()
+}
+
+/// Every allowed length of the full font, by both numberings, with the glyphs on both sides of its end; and lengths that are refused.
 pub fn every_length(random: &mut Random, tally: &mut Tally) -> Option<String> {
+    NUMBERINGS.into_iter().find_map(|numbering| {
+        let different = every_length_by(numbering, random, tally);
+        different.map(|what| format!("{numbering:?} numbering, {what}"))
+    })
+}
+
+fn every_length_by(numbering: Numbering, random: &mut Random, tally: &mut Tally) -> Option<String> {
     let half = random.bytes(HALF_FONT_LENGTH);
     let longest = random.bytes(FULL_FONT_LIMIT + 64);
-    let words: Vec<u16> = (0xA1A0..=0xF7FF)
-        .filter(|word: &u16| full_glyph_number((word >> 8) as u8, *word as u8).is_some())
-        .collect();
+    let words = numbered(numbering);
     let mut shown = plain();
+    shown.numbering = numbering;
     for glyphs in 0..=FULL_FONT_LIMIT / 32 + 1 {
         for (k, word) in shown.text[..32].iter_mut().enumerate() {
             *word = words[(glyphs + k + words.len() - 16) % words.len()];

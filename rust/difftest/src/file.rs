@@ -12,7 +12,11 @@ fn differs(time: bool, capture: &[u8], tally: &mut Tally) -> Option<String> {
         .or_else(|| compare(&plain, From(0), tally))
         .or_else(|| {
             (0..8).find_map(|_| {
-                let case = Case::random(true, time, capture.to_vec(), &mut random);
+                // A capture in a file begins with what `replay` begins with.
+                let case = Case {
+                    numbering: plain.numbering,
+                    ..Case::random(plain.parallel, time, capture.to_vec(), &mut random)
+                };
                 compare(&case, From(0), tally)
             })
         })

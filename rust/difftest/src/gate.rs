@@ -20,35 +20,41 @@ fn cases(
 
 /// How much each group compares: the cases are the same every time, so a group that compares less, or nothing, has lost some.
 const PINNED: [(&str, &str); 16] = [
-    ("captures", "136816 records, 140573 whole draws"),
+    (
+        "captures",
+        "136986 records, 69895 of them by the new numbering, 140743 whole draws",
+    ),
     (
         "damaged captures",
-        "6629 records, 738 refusals, 8331 whole draws",
+        "6548 records, 3517 of them by the new numbering, 734 refusals, 8240 whole draws",
     ),
     (
         "records of any kind",
-        "6552 records, 463 refusals, 8278 whole draws",
+        "6496 records, 3149 of them by the new numbering, 470 refusals, 8236 whole draws",
     ),
     ("buffers that are refused", "400 refusals, 800 whole draws"),
     (
         "every instruction in every mode over each link",
-        "69888 records, 69888 whole draws",
+        "69632 records, 35328 of them by the new numbering, 69632 whole draws",
     ),
     ("states made up, drawn", "20000 whole draws"),
-    ("every text word, drawn", "2048 whole draws"),
-    ("every length of the full font, drawn", "16708 whole draws"),
-    ("printed lines", "57253 printed lines"),
+    ("every text word, drawn", "4096 whole draws"),
+    ("every length of the full font, drawn", "35208 whole draws"),
+    ("printed lines", "55342 printed lines"),
     (
         "captures with time",
-        "151676 records, 155433 whole draws, 44361 transfers carried out in time, 16663 lost",
+        "151832 records, 73802 of them by the new numbering, 155589 whole draws, \
+         44398 transfers carried out in time, 16581 lost",
     ),
     (
         "damaged captures with time",
-        "6885 records, 734 refusals, 8570 whole draws, 2005 transfers carried out in time, 811 lost",
+        "7055 records, 3233 of them by the new numbering, 734 refusals, 8736 whole draws, \
+         2076 transfers carried out in time, 793 lost",
     ),
     (
         "records of any kind with time",
-        "6909 records, 434 refusals, 8577 whole draws, 726 transfers carried out in time, 944 lost",
+        "6879 records, 3429 of them by the new numbering, 440 refusals, 8559 whole draws, \
+         722 transfers carried out in time, 960 lost",
     ),
     (
         "buffers that are refused with time",
@@ -56,9 +62,10 @@ const PINNED: [(&str, &str); 16] = [
     ),
     (
         "every instruction in every mode over each link with time",
-        "175104 records, 175104 whole draws, 29328 transfers carried out in time, 29328 lost",
+        "174080 records, 90112 of them by the new numbering, 174080 whole draws, \
+         29328 transfers carried out in time, 29328 lost",
     ),
-    ("printed lines with time", "57857 printed lines"),
+    ("printed lines with time", "58664 printed lines"),
     ("sender", "4096 calls"),
 ];
 
@@ -84,6 +91,7 @@ fn group(name: &str, compared: Result<String, String>) -> bool {
 pub fn told(tally: &Tally) -> String {
     let counts = [
         (tally.records, "records"),
+        (tally.by_new, "of them by the new numbering"),
         (tally.stops, "refusals"),
         (tally.draws, "whole draws"),
         (tally.lines, "printed lines"),

@@ -1,5 +1,6 @@
 //! A case that differs is made small: records are dropped and values simplified as long as something still differs.
 use crate::case::Case;
+use model::Numbering;
 
 /// Some difference, or none.
 pub type Differs<'a> = dyn FnMut(&Case) -> Option<String> + 'a;
@@ -48,9 +49,10 @@ impl Small<'_, '_> {
         }
     }
 
-    /// A zero frame and font, no full glyphs, phase 0 and no time, each if it can be: what `replay` begins with.
+    /// A zero frame and font, no full glyphs, phase 0, no time and the old numbering, each if it can be: what `replay` begins with.
     fn plain_surroundings(&mut self) {
         self.try_with(|case| case.time = false);
+        self.try_with(|case| case.numbering = Numbering::Old);
         self.try_with(|case| case.full.clear());
         self.try_with(|case| case.half.fill(0));
         self.try_with(|case| case.frame.fill(0));

@@ -1,6 +1,9 @@
 //! Names for the places of a state and a frame, for messages.
+use proved::{CONTROL, CONTROL_AT};
 
-const CONTROLS: [&str; 26] = [
+const LINK_AT: usize = CONTROL_AT + CONTROL;
+
+const CONTROLS: [&str; CONTROL] = [
     "target",
     "counter",
     "graphic row",
@@ -27,6 +30,7 @@ const CONTROLS: [&str; 26] = [
     "with time",
     "time left, high byte",
     "time left, low byte",
+    "numbering",
 ];
 
 const LINK: [&str; 10] = [
@@ -47,8 +51,8 @@ pub fn state_place(at: usize) -> String {
         0..=127 => format!("text word {}, byte {}", at / 2, at % 2),
         128..=255 => format!("glyph word {}, byte {}", (at - 128) / 2, at % 2),
         256..=2303 => format!("graphic row {}, byte {}", (at - 256) / 32, at % 32),
-        2304..=2329 => CONTROLS[at - 2304].to_string(),
-        _ => LINK[at - 2330].to_string(),
+        CONTROL_AT..LINK_AT => CONTROLS[at - CONTROL_AT].to_string(),
+        _ => LINK[at - LINK_AT].to_string(),
     }
 }
 

@@ -2,7 +2,7 @@
 use crate::case::Case;
 use crate::compare::Tally;
 use crate::random::Random;
-use model::{printed, replay, Panel};
+use model::{printed, replay};
 use std::io::{Read, Write};
 use std::process::{Command, Stdio};
 
@@ -50,7 +50,7 @@ fn proved_lines(case: &Case, parts: &[usize]) -> Result<Vec<u8>, String> {
 }
 
 fn model_lines(case: &Case) -> String {
-    let mut panel = Panel::made(case.parallel, case.time);
+    let mut panel = case.panel();
     let mut frame = case.frame.clone();
     let said = replay(
         &mut panel,

@@ -1,4 +1,5 @@
 //! What meters do, as short scenes put one after the other, with noise between them.
+use crate::case::NUMBERINGS;
 use crate::random::Random;
 use crate::wire::{Link, Wire, DATA_READ, STATUS_READ};
 
@@ -36,20 +37,25 @@ fn scene(wire: &mut Wire) {
     }
 }
 
-/// A word of text memory, of each sort that the picture tells apart, and at their edges.
+/// A word of text memory, of each sort that the picture tells apart under either numbering, and at their edges.
 pub fn word(random: &mut Random) -> [u8; 2] {
-    match random.below(8) {
+    match random.below(9) {
         0..=1 => [0x00, random.below(0x11) as u8],
-        2 => [0xA1, 0xA0 + random.below(0x60) as u8],
-        3 => [
-            random.pick(&[0xA0, 0xA1, 0xA2, 0xA3, 0xF6, 0xF7, 0xF8]),
-            random.pick(&[0x00, 0x41, 0x9F, 0xA0, 0xA1, 0xFF]),
+        // Both ranges of trails, and the hole between them, where short fonts have glyphs.
+        2..=3 => [
+            random.pick(&[0xA1, 0xA1, 0xA2]),
+            0x40 + random.below(0xC0) as u8,
         ],
-        4..=5 => [
+        // D55F is the new numbering's code for the old one's last number.
+        4 => [
+            random.pick(&[0xA0, 0xA1, 0xA2, 0xD5, 0xD6, 0xD7, 0xD8, 0xF6, 0xF7, 0xF8]),
+            random.pick(&[0x00, 0x3F, 0x40, 0x5F, 0x60, 0x7F, 0x80, 0x9F, 0xA0, 0xFF]),
+        ],
+        5..=6 => [
             0x20 + random.below(0x60) as u8,
             0x20 + random.below(0x60) as u8,
         ],
-        6 => [
+        7 => [
             random.pick(&[0x00, 0x01, 0x02, 0x03, 0x7F, 0x80]),
             random.pick(&[0x00, 0x01, 0x02, 0x7F, 0x80, 0x0F]),
         ],
@@ -228,13 +234,15 @@ fn any_data(wire: &mut Wire) {
 /// What a capture has rarely: another link, or everything anew.
 fn now_and_then(wire: &mut Wire) {
     match wire.random.below(12) {
-        0 => {
-            let parallel = wire.random.flag();
-            wire.reset(parallel);
+        0..=1 => {
+            let (parallel, numbering) = (wire.random.flag(), wire.random.pick(&NUMBERINGS));
+            wire.reset(parallel, numbering);
+            // Most often on, so that what comes next is seen.
+            switches(wire);
         }
-        1 => wire.instruction(0x01),
-        2 => wire.instruction(0x02),
-        3..=5 => wire.noise(),
+        2 => wire.instruction(0x01),
+        3 => wire.instruction(0x02),
+        4..=6 => wire.noise(),
         _ => switches(wire),
     }
 }

@@ -2,7 +2,7 @@
 //!
 //! The words are those of `show`, but that the built-in half font comes from the file that draws it (`--drawn FILE`), and that a picture
 //! file goes to standard output (`--pbm`).
-use model::{replay, Panel, FRAME_LENGTH, HALF_FONT_LENGTH};
+use model::{replay, Numbering, Panel, FRAME_LENGTH, HALF_FONT_LENGTH};
 use std::io::{Read, Write};
 
 struct Asked {
@@ -137,7 +137,7 @@ fn caption(panel: &Panel, records: usize) -> String {
 
 fn printed(words: &[&str]) -> Result<Vec<u8>, String> {
     let asked = asked(words)?;
-    let mut panel = Panel::made(true, asked.time);
+    let mut panel = Panel::made(true, asked.time, Numbering::Old);
     let mut frame = vec![0; FRAME_LENGTH];
     let said = replay(
         &mut panel,

@@ -3,6 +3,7 @@
 //! The wire keeps account of the width, of RE and of the time for which the panel is busy, as a meter would. Noise can put that account
 //! wrong; the capture is then just noise, and both sides have to agree on that too.
 use crate::random::Random;
+use model::Numbering;
 
 #[derive(Clone, Copy, PartialEq, Eq)]
 pub enum Link {
@@ -19,6 +20,11 @@ pub const EIGHT_BITS: u8 = 4;
 pub const SELECT_LOW: u8 = 5;
 pub const RESET: u8 = 6;
 pub const PASS: u8 = 7;
+
+/// What a reset has for a value: bit 0 is the interface pin, bit 1 the numbering.
+pub fn reset_value(parallel: bool, numbering: Numbering) -> u8 {
+    parallel as u8 | ((numbering == Numbering::New) as u8) << 1
+}
 
 pub struct Wire {
     pub random: Random,
@@ -170,9 +176,9 @@ impl Wire {
         self.instruction(0x20 | dl | (self.re as u8) << 2);
     }
 
-    pub fn reset(&mut self, parallel: bool) {
+    pub fn reset(&mut self, parallel: bool, numbering: Numbering) {
         self.fill_record();
-        self.record(RESET, parallel as u8);
+        self.record(RESET, reset_value(parallel, numbering));
         self.link = if parallel { Link::Bytes } else { Link::Serial };
         self.left = 0;
         self.re = false;

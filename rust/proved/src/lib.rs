@@ -7,7 +7,7 @@ extern "C" {
         text: *const [u8; 128],
         glyph: *const [u8; 128],
         graphic: *const [u8; 2048],
-        control: *const [u8; 26],
+        control: *const [u8; CONTROL],
         frame: *mut u8,
         frame_length: usize,
         half: *const u8,
@@ -20,6 +20,7 @@ extern "C" {
     fn zifqarell_replay(
         parallel: bool,
         time: bool,
+        by_160: bool,
         capture: *const u8,
         capture_length: usize,
         frame: *mut u8,
@@ -36,11 +37,32 @@ extern "C" {
     fn zifqarell_send(register: bool, byte: u8, buffer: *mut u8, buffer_length: usize) -> u8;
 }
 
-/// The bytes of a state: text memory 128, glyph memory 128, graphic memory 2,048, controls 26, link 10.
-pub const STATE: usize = 2340;
+/// The bytes of the controls, the numbering last.
+pub const CONTROL: usize = 27;
+
+/// Where they begin in a state's bytes: after text memory, glyph memory and graphic memory.
+pub const CONTROL_AT: usize = 128 + 128 + 2048;
+
+/// The bytes of a state: the memories, the controls, and 10 of the link.
+pub const STATE: usize = CONTROL_AT + CONTROL + 10;
 
 /// What the lent buffers hold before a call, so that a byte which the call leaves out is seen.
 const UNWRITTEN: u8 = 0xEE;
+
+/// How the codes of full glyphs are numbered: 96 to a lead, or 160.
+#[derive(Clone, Copy, PartialEq, Eq)]
+pub enum Numbering {
+    By96,
+    By160,
+}
+
+/// What a panel is made with: its link, whether it has time, and its numbering.
+#[derive(Clone, Copy)]
+pub struct Made {
+    pub parallel: bool,
+    pub time: bool,
+    pub numbering: Numbering,
+}
 
 /// The two fonts and the blink phase.
 #[derive(Clone, Copy)]
@@ -50,13 +72,13 @@ pub struct Lent<'a> {
     pub phase: bool,
 }
 
-/// A state to draw: its memories and its 26 bytes of controls.
+/// A state to draw: its memories and its controls.
 #[derive(Clone, Copy)]
 pub struct Memories<'a> {
     pub text: &'a [u8; 128],
     pub glyph: &'a [u8; 128],
     pub graphic: &'a [u8; 2048],
-    pub control: &'a [u8; 26],
+    pub control: &'a [u8; CONTROL],
 }
 
 impl<'a> Memories<'a> {
@@ -65,7 +87,7 @@ impl<'a> Memories<'a> {
         let (text, rest) = state.split_first_chunk().expect("128 bytes of text");
         let (glyph, rest) = rest.split_first_chunk().expect("128 bytes of images");
         let (graphic, rest) = rest.split_first_chunk().expect("2,048 bytes of graphic");
-        let (control, _) = rest.split_first_chunk().expect("26 bytes of controls");
+        let (control, _) = rest.split_first_chunk().expect("27 bytes of controls");
         Memories {
             text,
             glyph,
@@ -110,22 +132,17 @@ pub fn draw(memories: Memories, frame: &mut [u8], lent: Lent) -> u8 {
     }
 }
 
-/// Replays a capture on a fresh panel, with or without time, over the lent frame.
-pub fn replay(
-    parallel: bool,
-    time: bool,
-    capture: &[u8],
-    frame: &mut [u8],
-    lent: Lent,
-) -> Result<Ended, Refused> {
+/// Replays a capture on a fresh panel, made so, over the lent frame.
+pub fn replay(made: Made, capture: &[u8], frame: &mut [u8], lent: Lent) -> Result<Ended, Refused> {
     let mut state = [UNWRITTEN; STATE];
     let mut last = [UNWRITTEN; 11];
     // Each pointer is that of a live reference, with the length that goes with it; the three that are written are borrowed mutably
     // and lie apart.
     let number = unsafe {
         zifqarell_replay(
-            parallel,
-            time,
+            made.parallel,
+            made.time,
+            made.numbering == Numbering::By160,
             capture.as_ptr(),
             capture.len(),
             frame.as_mut_ptr(),
