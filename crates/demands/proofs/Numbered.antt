@@ -71,6 +71,11 @@ use Rattle.demands.specs.Demand3.{namedActed}
 use Rattle.demands.proofs.Carried.{of-paired}
 use Rattle.demands.proofs.Timely.{timeless-same}
 
+-- what holds of both pairs of answers holds of the pair that a test picks
+both-picked : {A B : Type 0} (R : A → B → Type 0) (t : Bool) {a c : A} {b d : B} → R a b → R c d → R (if t then a else c) (if t then b else d)
+both-picked R true p q = p
+both-picked R false p q = q
+
 -- the numberings
 
 pub no-two-share : NoTwoShare
@@ -132,15 +137,10 @@ module _ (n : Numbering) where
   moved-alike c = by-test (shifts c) (λ t. rw t) (λ t. rw t)
 
   module _ (m : Memories) (c : Control) where
-    -- a dummy read, or another
-    either-read : (dummy : Bool) (d r was is : Done) → d ≡ doneWith n r → is ≡ doneWith n was → (if dummy then d else is) ≡ doneWith n (if dummy then r else was)
-    either-read true d r was is p q = p
-    either-read false d r was is p q = q
-
     read-alike : readOut m (controlsWith n c) ≡ doneWith n (readOut m c)
     unfolding readOut readNames
     read-alike =
-        either-read (c .place .dummy) _ _ _ _ refl
+        both-picked (λ (x y : Done). x ≡ doneWith n y) (c .place .dummy) refl
         (ap (λ (d : Control). record { control = d; reply = found (c .place .target) (c .place) m; region = readNames c d }) (moved-alike c))
 
     carried-alike : (t : Transfer) → carriedOut m (controlsWith n c) t ≡ actedWith n (carriedOut m c t)
@@ -155,16 +155,10 @@ module _ (n : Numbering) where
     carried-alike Read = ap (acted m) read-alike
 
     -- lost or not, at its cost
-    timed-alike : (is : Bool) (k : ℕ) (a : Acted) →
-        (if is then acted m (nothingDone (controlsWith n c)) else acted (actedWith n a .memories) (atCost k (actedWith n a .done)))
-        ≡ actedWith n (if is then acted m (nothingDone c) else acted (a .memories) (atCost k (a .done)))
-    timed-alike true k a = refl
-    timed-alike false k a = refl
-
     on-time-alike : (t : Transfer) → lost (controlsWith n c) t ≡ lost c t → cost (controlsWith n c) t ≡ cost c t → onTime m (controlsWith n c) t ≡ actedWith n (onTime m c t)
     unfolding onTime
     on-time-alike t l k =
-        rw (l, k, carried-alike t) (timed-alike (lost c t) (cost c t) (carriedOut m c t))
+        rw (l, k, carried-alike t) (both-picked (λ (x y : Acted). x ≡ actedWith n y) (lost c t) refl refl)
 
     whole-alike : (t : Transfer) → onTime m (controlsWith n c) t ≡ actedWith n (onTime m c t)
     whole-alike (Instruct byte) = on-time-alike (Instruct byte) refl refl
@@ -273,6 +267,9 @@ module _ (e : Seen) (n : Numbering) where
         count = count;
       }) (counted-alike n (a .done .control .view) (a .memories .text) (a .done .region))
 
+  abbrev Alike : Called → Called → Type 0
+  Alike x y = answered n x ≡ answered n y
+
   module _ (s : State) (frame other : List ℕ) where
     taken-alike : (t : Taken) → answered n (unlessOther e s frame t) ≡ answered n (unlessOther e (renumbered n s) other t)
     taken-alike OtherLink = refl
@@ -281,20 +278,12 @@ module _ (e : Seen) (n : Numbering) where
         ∙ ap (λ (a : Acted). answered n (accepted e other a (x .rest))) (performed-alike n (s .memories) (s .control) (x .deed))
         ∙ sym (accepted-alike other other (performed (s .memories) (controlsWith n (s .control)) (x .deed)) (x .rest))
 
-    -- alike whatever a test picks
-    picked-alike : (is : Bool) (a b c d : Called) → answered n a ≡ answered n b → answered n c ≡ answered n d
-        → answered n (if is then a else c) ≡ answered n (if is then b else d)
-    picked-alike true a b c d p q = p
-    picked-alike false a b c d p q = q
-
     call-alike : (call : Event) → length frame ≡ length other → answered n (called e s frame call) ≡ answered n (called e (renumbered n s) other call)
     unfolding called
     call-alike call h =
         let number = refusalOf (length other) (length (e .fonts .half)) (length (e .fonts .full)) in
         rw (h, timeless-same (s .control) (controlsWith n (s .control)) call refl)
-        (picked-alike (eqb number 0) _ _ _ _
-        (picked-alike (timeless (controlsWith n (s .control)) call) _ _ _ _ refl (taken-alike (takenOn s call)))
-        refl)
+        (both-picked Alike (eqb number 0) (both-picked Alike (timeless (controlsWith n (s .control)) call) refl (taken-alike (takenOn s call))) refl)
 
   calls-alike : (calls : List Event) (s t : State) (frame other : List ℕ) → renumbered n s ≡ renumbered n t → length frame ≡ length other
       → map (answered n) (answers e s frame calls) ≡ map (answered n) (answers e t other calls)
