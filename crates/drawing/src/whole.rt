@@ -1,4 +1,5 @@
 // The whole picture: band by band, each the rows of the glass that show one line of text. A line's cells are looked up once.
+use controller::places::row_place;
 use picture::Look;
 use picture::shown::shown_row;
 use tiles::lay_line;
@@ -35,7 +36,7 @@ fn hand_row(tiles: &[u8; 512], y: u32, row: u32, frame: &mut [u8])
     while cell < 16 {
         let k = cell as usize;
         let from = 32 * k + 2 * (y as usize);
-        let to = 32 * (row as usize) + 2 * k;
+        let to = row_place(row, 2 * cell);
         let left = tiles[from];
         let right = tiles[from + 1];
         frame[to] = left;
@@ -111,9 +112,9 @@ fn paint_band(
     hand_out(&tiles, scroll, row, end, frame);
     overlay_if(
         graphic,
-        32 * (s as usize),
+        row_place(s, 0),
         frame,
-        32 * (row as usize),
+        row_place(row, 0),
         32 * (end - row),
         look.graphic,
     );

@@ -1,6 +1,7 @@
 // The numberings of the full font, after document 01's "The picture" and request K3.
 use events::Numbering;
 ghost use mathlib.Core.Path.{_≡_};
+ghost use Prim.Native.Nat.{_*_, _<_};
 ghost use Rattle.events.specs.declared.Numbering.the-variants.{By96, By160};
 ghost use Rattle.numbering.specs.Numbering.{numberOf};
 
@@ -8,6 +9,23 @@ ghost use Rattle.numbering.specs.Numbering.{numberOf};
 pub enum Code {
     Unnumbered,
     Number(u16),
+}
+
+// The small board multiplies in software. Of page << 6 and page << 5, which are 96 pages together, a compiler makes one multiplication
+// again; of a page and its half it makes none.
+fn times_96(page: u16) -> u16
+    requires { ⌜ page < 256 ⌝ }
+    ensures { λ r. ⌜ r ≡ page * 96 ⌝ }
+{
+    ((page + page / 2) << 6) + (page % 2 << 5)
+}
+
+// Likewise, with a page and its quarter.
+fn times_160(page: u16) -> u16
+    requires { ⌜ page < 256 ⌝ }
+    ensures { λ r. ⌜ r ≡ page * 160 ⌝ }
+{
+    ((page + page / 4) << 7) + (page % 4 << 5)
 }
 
 // Leads A1h..F7h with trails from A0h are numbered, 96 to a lead.
@@ -25,7 +43,7 @@ fn by_96(lead: u8, trail: u8) -> Code
     }
     let page = (lead - 0xA1) as u16;
     let place = (trail - 0xA0) as u16;
-    Code::Number(page * 96 + place)
+    Code::Number(times_96(page) + place)
 }
 
 // Leads A1h..D7h with trails 40h..7Fh, and behind them those from A0h, are numbered, 160 to a lead.
@@ -41,14 +59,14 @@ fn by_160(lead: u8, trail: u8) -> Code
     if trail < 0x40 {
         return Code::Unnumbered;
     }
-    let page = (lead - 0xA1) as u16;
+    let first = times_160((lead - 0xA1) as u16);
     if trail <= 0x7F {
-        return Code::Number(page * 160 + (trail - 0x40) as u16);
+        return Code::Number(first + (trail - 0x40) as u16);
     }
     if trail < 0xA0 {
         return Code::Unnumbered;
     }
-    Code::Number(page * 160 + (64 + (trail - 0xA0) as u16))
+    Code::Number(first + (64 + (trail - 0xA0) as u16))
 }
 
 // The number of a code, by the numbering.

@@ -9,6 +9,7 @@ use crate::shade::overlay;
 use crate::shown::shown_row;
 use crate::shown::shown_word;
 use crate::shown::word_content;
+use controller::places::row_place;
 use glyph::dots::dot_byte;
 ghost use mathlib.Core.Path.{_≡_};
 ghost use Prim.Native.Nat.{_<_};
@@ -41,10 +42,10 @@ pub fn byte_over(graphic: &[u8; 2048], look: Look, row: u32, column: u32, dots: 
     let marked = mark(here, cursor, look.blink, dots);
     let reversed = look.view.reversed;
     let line = s / 16;
-    let place = 32 * s + column;
+    let place = row_place(s, column);
     overlay(
         look.graphic,
-        graphic[place as usize],
+        graphic[place],
         invert(reversed[line as usize], marked),
     )
 }

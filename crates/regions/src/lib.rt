@@ -1,10 +1,10 @@
 // A region of the glass, whatever it is: all of it, cells, a half of an image or a graphic byte; painted and counted.
 use controller::Cell;
 use controller::Region;
+use controller::places::byte_column;
 use drawing::paint_whole;
 use picture::Look;
 use repaint::cells::paint_cell;
-use repaint::halves::byte_column;
 use repaint::halves::paint_glyph_half;
 use repaint::halves::paint_graphic_byte;
 ghost use mathlib.Core.Path.{_≡_};

@@ -1,5 +1,6 @@
 // A cell: its two columns on the visible rows of its line.
 use controller::Cell;
+use controller::places::row_place;
 use picture::Look;
 use picture::paint::paint_row;
 use tiles::lay_tile;
@@ -53,7 +54,7 @@ fn paint_cell_row(
     ensures { λ _. ⌜ now (frame .exit) ≡ paintedOn wide (inCellRow row cell) (shownBy (now (tile .entry)) (now (graphic .entry)) look) (now (frame .entry)) ⌝ }
 {
     let pair = tile_pair(tile, graphic, look, row, cell);
-    let start = 32 * (row as usize) + 2 * (cell as usize);
+    let start = row_place(row, 2 * cell);
     let end = start + 2;
     paint_row(&mut frame[start..end], pair);
 }

@@ -2,6 +2,9 @@
 use crate::ImageByte;
 use controller::Image;
 use controller::named::image;
+use controller::places::byte_column;
+use controller::places::row_place;
+use controller::places::word_place;
 use picture::Look;
 use picture::paint::byte_at;
 use picture::paint::byte_over;
@@ -9,20 +12,11 @@ ghost use mathlib.Core.Path.{_≡_};
 ghost use Prim.Native.Nat.{_+_, _*_, _%_, _<_};
 ghost use lib.ListN.{length, getD};
 ghost use Rattle.base.specs.Layout.{rows, columns};
-ghost use Rattle.controller.specs.Memories.{before, half, wordPlace};
+ghost use Rattle.controller.specs.Memories.{before, wordPlace};
 ghost use Rattle.controller.specs.Glass.{wordImage, isImage};
 ghost use Rattle.controller.specs.Named.{showsGlyph};
 ghost use Rattle.picture.specs.Picture.{fonts, byteOver, byteAt, wide};
 ghost use Rattle.repaint.specs.Repaint.{ViewWithin, painting, paintsOn, showsPlace};
-
-// The column of a half of the sixteen words of a row.
-pub fn byte_column(word: u32, low: bool) -> u32
-    requires { ⌜ word < 16 ⌝ }
-    ensures { λ r. ⌜ r ≡ 2 * word + half low ⌝ }
-    ensures inside { λ r. ⌜ r < 32 ⌝ }
-{
-    if low { 2 * word + 1 } else { 2 * word }
-}
 
 // Whether a text word shows an image.
 fn shows_image(text: &[u8; 128], word: u32, number: u8) -> bool
@@ -54,8 +48,8 @@ fn paint_if_image(
     let shown = 16 * (s / 16) + (cell + look.view.shift as u32) % 16;
     if shows_image(text, shown, part.word / 16) {
         let column = byte_column(cell, part.low);
-        let place = 32 * row + column;
-        frame[place as usize] = byte_over(graphic, look, row, column, part.dots);
+        let place = row_place(row, column);
+        frame[place] = byte_over(graphic, look, row, column, part.dots);
         return 1;
     }
     0
@@ -96,7 +90,7 @@ pub fn paint_glyph_half(
     requires { ⌜ (word < 64) × (length (now frame) ≡ 1024) ⌝ }
     ensures { λ r. ⌜ painting r (now (frame .exit)) ≡ paintsOn wide (showsGlyph (look .view) (now (text .entry)) word low) (byteOver (getD (now (glyph .entry)) (wordPlace word low) 0) (now (graphic .entry)) look) (now (frame .entry)) ⌝ }
 {
-    let at = 2 * (word as usize) + controller::places::half(low);
+    let at = word_place(word, low);
     let part = ImageByte {
         word,
         low,
@@ -124,8 +118,8 @@ pub fn paint_graphic_byte(
 {
     let row = (y + 64 - look.view.scroll as u32) % 64;
     if row < 32 {
-        let place = 32 * row + column;
-        frame[place as usize] = byte_at(text, glyph, graphic, look, row, column, half, full);
+        let place = row_place(row, column);
+        frame[place] = byte_at(text, glyph, graphic, look, row, column, half, full);
         return 1;
     }
     0

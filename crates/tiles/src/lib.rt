@@ -1,4 +1,5 @@
 // The tiles of a line's sixteen cells, one after the other: what is done to them before they are handed out, in document 01's order.
+use controller::places::row_place;
 use events::Numbering;
 use glyph::tile::lay;
 use picture::Look;
@@ -180,7 +181,7 @@ pub fn tile_pair(tile: &[u8; 32], graphic: &[u8; 2048], look: Look, row: u32, ce
 {
     let s = shown_row(look.view, row);
     let at = 2 * ((s % 16) as usize);
-    let place = 32 * (s as usize) + 2 * (cell as usize);
+    let place = row_place(s, 2 * cell);
     Pair {
         left: lit(look.dark, look.graphic, graphic[place], tile[at]),
         right: lit(look.dark, look.graphic, graphic[place + 1], tile[at + 1]),

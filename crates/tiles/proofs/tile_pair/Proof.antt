@@ -13,9 +13,7 @@ tile-pair-spec =
     (λ c. search needs)
     (λ c. search needs)
     (λ c. search needs)
-    (λ c. search needs)
-    (λ c. search needs)
-    (λ c. search needs)
+    (λ c κs. search needs)
     (λ c. search needs)
     (λ c. search needs)
     (λ c κs. search needs)
@@ -24,5 +22,5 @@ tile-pair-spec =
     (λ c. search needs)
     (λ c. search needs)
     (λ c κs. search needs)
-    (λ c. let left = c .before .before .before in let s = left .before .before .before in let a = s .before .args in
-    ap₂ pairOf (left .lit .ensures) (c .lit2 .ensures) ∙ rw (s .shown-row .ensures .1) (pair-shown-by (a .tile .now) (a .graphic .now) (a .look) (a .row) (a .cell))))
+    (λ c. let left = c .before .before .before in let place = left .before .before .before in let s = place .before in let a = s .before .args in
+    ap₂ pairOf (left .lit .ensures) (c .lit2 .ensures) ∙ rw (place .row-place .ensures, s .shown-row .ensures .1) (pair-shown-by (a .tile .now) (a .graphic .now) (a .look) (a .row) (a .cell))))

@@ -1,4 +1,4 @@
--- The half is 0 or 1.
+-- A shift to the left by one is a product with 2; the half is 0 or 1.
 use borrow.Author.Needs.{needs}
 use native.Mathlib.Omega.{arith}
 use Rattle.controller.proofs.Halves.{half-le}
@@ -9,7 +9,6 @@ pub word-place-spec : {M : Type 1} → statement M
 word-place-spec =
     tie.close
     (tie.spec
-    (λ c. search needs)
     (λ c κs. search needs)
     (λ c. omega (arith, c .half .ensures, half-le (c .before .args .low)))
-    (λ c. (rw (c .half .ensures), omega (arith, c .half .ensures, half-le (c .before .args .low)))))
+    (λ c. (omega (arith, c .half .ensures), omega (arith, c .half .ensures, half-le (c .before .args .low)))))

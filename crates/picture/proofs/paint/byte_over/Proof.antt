@@ -14,14 +14,12 @@ byte-over-spec =
     (λ c κs. search needs)
     (λ c κs. search needs)
     (λ c κs. search needs)
-    (λ c. search needs)
-    (λ c. search needs)
-    (λ c. search needs)
+    (λ c κs. search needs)
     (λ c. search needs)
     (λ c. search needs)
     (λ c. search needs)
     (λ c κs. search needs)
     (λ c κs. search needs)
-    (λ c. let marks = c .before .before .before .before in let here = marks .before .before in let test = here .before .before .before in let a = test .before .args in
+    (λ c. let place = c .before .before .before in let marks = place .before .before in let here = marks .before .before in let test = here .before .before .before in let a = test .before .args in
     over-dots (a .look) (a .row) (a .column) (a .graphic .now) _ _ _ (a .dots) _ _ _ _ (here .before .before .shown-row .ensures .1) (here .before .shown-word .ensures .1) (here .counter-word .ensures)
-    (marks .before .both .ensures) (marks .mark .ensures) (c .before .invert .ensures) (test .if1 .left) (c .overlay .ensures)))
+    (marks .before .both .ensures) (marks .mark .ensures) (c .before .invert .ensures) (test .if1 .left) (rw (place .row-place .ensures) at (c .overlay .ensures))))

@@ -16,13 +16,12 @@ paint-cell-row-spec =
     (tie.spec
     (λ c κs. search needs)
     (λ c. search needs)
-    (λ c. search needs)
-    (λ c. search needs)
+    (λ c κs. search needs)
     (λ c. search needs)
     (λ c. search needs)
     (λ c. search needs)
     (λ c. search needs)
     (λ c κs. search needs)
     (λ c. search needs)
-    (λ c. let paired = c .before .before .before .before in let start = paired .before .before in let a = start .args in let p = start .pre in let b = shownBy (a .tile .now) (a .graphic .now) (a .look) in let h : 32 * a .row + 2 * a .cell + 2 ≤ length (a .frame .now) = omega arith in
-    rw (c .before .before .paint-row .ensures, paired .tile-pair .ensures) (put-pair (32 * a .row + 2 * a .cell) (a .frame .now) (b (a .row) (2 * a .cell)) (b (a .row) (2 * a .cell + 1)) h ∙ cell-row-painted b (a .row) (a .cell) (a .frame .now) (p .0) (p .1) (p .2))))
+    (λ c. let place = c .before .before .before .before in let paired = place .before in let start = paired .before .before in let a = start .args in let p = start .pre in let b = shownBy (a .tile .now) (a .graphic .now) (a .look) in let h : 32 * a .row + 2 * a .cell + 2 ≤ length (a .frame .now) = omega arith in
+    rw (c .before .before .paint-row .ensures, paired .tile-pair .ensures, place .row-place .ensures) (put-pair (32 * a .row + 2 * a .cell) (a .frame .now) (b (a .row) (2 * a .cell)) (b (a .row) (2 * a .cell + 1)) h ∙ cell-row-painted b (a .row) (a .cell) (a .frame .now) (p .0) (p .1) (p .2))))
