@@ -11,7 +11,7 @@ use Rattle.base.proofs.Tests.{and-both}
 use Rattle.events.specs.declared.Numbering.{Numbering}
 use Rattle.events.specs.declared.Numbering.the-variants.{By96, By160}
 use Rattle.numbering.specs.declared.Code.{Code}
-use Rattle.numbering.specs.declared.Code.the-variants.{Number}
+use Rattle.numbering.specs.declared.Code.the-variants.{Unnumbered, Number}
 use Rattle.numbering.specs.Numbering.{numberOf, numberCount}
 
 -- the code of a number
@@ -31,6 +31,12 @@ pub record ReadBack (n : Numbering) (lead trail i : ℕ) : Type 0 where
 
 same-number : {i j : ℕ} → Number i ≡ Number j → i ≡ j
 same-number e = cc
+
+-- leads below A1h have no page
+pub unpaged : (n : Numbering) (lead trail : ℕ) → lead < 0xA1 → numberOf n lead trail ≡ Unnumbered
+unfolding numberOf
+unpaged By96 lead trail h = simp (lt-leb 0xA1 lead h)
+unpaged By160 lead trail h = simp (lt-leb 0xA1 lead h)
 
 -- the old numbering
 old-read-back : (lead trail i : ℕ) → trail < 256 → numberOf By96 lead trail ≡ Number i → ReadBack By96 lead trail i

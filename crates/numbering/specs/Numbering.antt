@@ -19,6 +19,11 @@ numberOf By160 lead trail =
     else if leb 0xA0 trail then Number ((lead - 0xA1) * 160 + (64 + (trail - 0xA0)))
     else Unnumbered
 
+-- how many numbers a lead has
+abbrev pub perLead : Numbering → ℕ
+perLead By96 = 96
+perLead By160 = 160
+
 -- how many numbers each has
 abbrev pub numberCount : Numbering → ℕ
 numberCount By96 = 8352

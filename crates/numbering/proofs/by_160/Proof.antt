@@ -11,16 +11,13 @@ unfolding numberOf
 by-160-spec =
     tie.close
     (tie.spec
-    (λ c. simp (lt-leb _ _ (c .if1 .taken)))
-    (λ c. simp (le-leb _ _ (c .before .if1 .left), lt-leb _ _ (c .if2 .taken)))
-    (λ c. simp (le-leb _ _ (c .before .before .if1 .left), le-leb _ _ (c .before .if2 .left), lt-leb _ _ (c .if3 .taken), lt-leb 0xA0 (c .before .before .before .args .trail) (omega (arith, c .if3 .taken))))
+    (λ c. simp (le-leb _ _ (c .before .pre .0), lt-leb _ _ (c .if1 .taken)))
+    (λ c. let start = c .before .before in simp (le-leb _ _ (start .pre .0), le-leb _ _ (c .before .if1 .left), lt-leb _ _ (c .if2 .taken), lt-leb 0xA0 (start .args .trail) (omega (arith, c .if2 .taken))))
     (λ c. search needs)
-    (λ c κs. search needs)
-    (λ c. search needs)
-    (λ c. omega (arith, c .before .times-160 .ensures))
-    (λ c. let tests = c .before .before in simp (le-leb _ _ (tests .before .before .if1 .left), le-leb _ _ (tests .before .if2 .left), le-leb _ _ (tests .if3 .left), le-leb _ _ (c .if4 .taken), c .before .times-160 .ensures))
-    (λ c. let tests = c .before .before .before in simp (le-leb _ _ (tests .before .before .if1 .left), le-leb _ _ (tests .before .if2 .left), le-leb _ _ (tests .if3 .left), lt-leb _ _ (c .before .if4 .left), lt-leb _ _ (c .if5 .taken)))
+    (λ c. let start = c .before .before .before in omega (arith, start .pre .1))
+    (λ c. let lead = c .before .before in simp (le-leb _ _ (lead .before .pre .0), le-leb _ _ (lead .if1 .left), le-leb _ _ (c .before .if2 .left), le-leb _ _ (c .if3 .taken), lead .before .pre .1))
+    (λ c. let lead = c .before .before .before in simp (le-leb _ _ (lead .before .pre .0), le-leb _ _ (lead .if1 .left), le-leb _ _ (c .before .before .if2 .left), lt-leb _ _ (c .before .if3 .left), lt-leb _ _ (c .if4 .taken)))
     (λ c. search needs)
     (λ c. search needs)
-    (λ c. omega (arith, c .before .before .times-160 .ensures))
-    (λ c. let tests = c .before .before .before in simp (le-leb _ _ (tests .before .before .if1 .left), le-leb _ _ (tests .before .if2 .left), le-leb _ _ (tests .if3 .left), lt-leb _ _ (c .before .if4 .left), le-leb _ _ (c .if5 .left), c .before .before .times-160 .ensures)))
+    (λ c. let start = c .before .before .before .before in omega (arith, start .pre .1))
+    (λ c. let lead = c .before .before .before in simp (le-leb _ _ (lead .before .pre .0), le-leb _ _ (lead .if1 .left), le-leb _ _ (c .before .before .if2 .left), lt-leb _ _ (c .before .if3 .left), le-leb _ _ (c .if4 .left), lead .before .pre .1)))

@@ -11,11 +11,8 @@ unfolding numberOf
 by-96-spec =
     tie.close
     (tie.spec
-    (λ c. simp (lt-leb _ _ (c .if1 .taken)))
-    (λ c. simp (le-leb _ _ (c .before .if1 .left), lt-leb _ _ (c .if2 .taken)))
-    (λ c. simp (le-leb _ _ (c .before .before .if1 .left), le-leb _ _ (c .before .if2 .left), lt-leb _ _ (c .if3 .taken)))
+    (λ c. simp (le-leb _ _ (c .before .pre .0), lt-leb _ _ (c .if1 .taken)))
+    (λ c. let start = c .before .before in simp (le-leb _ _ (start .pre .0), le-leb _ _ (c .before .if1 .left), lt-leb _ _ (c .if2 .taken)))
     (λ c. search needs)
-    (λ c. search needs)
-    (λ c κs. search needs)
-    (λ c. omega (arith, c .times-96 .ensures))
-    (λ c. let tests = c .before in simp (le-leb _ _ (tests .before .before .if1 .left), le-leb _ _ (tests .before .if2 .left), le-leb _ _ (tests .if3 .left), c .times-96 .ensures)))
+    (λ c. let start = c .before .before in omega (arith, start .pre .1))
+    (λ c. let start = c .before .before in simp (le-leb _ _ (start .pre .0), le-leb _ _ (c .before .if1 .left), le-leb _ _ (c .if2 .left), start .pre .1)))
