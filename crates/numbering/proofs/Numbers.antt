@@ -4,7 +4,7 @@ use mathlib.Core.Bool.{not, _&&_, true≢false}
 use mathlib.Core.Path.{_≡_, ap}
 use native.Mathlib.Omega.{arith}
 use lib.Dec.{leb, ltb}
-use borrow.Author.Tests.{leb-true, le-leb, lt-leb, ltb-true, ltb-false, not-false}
+use borrow.Author.Tests.{leb-true, leb-false, le-leb, lt-leb, ltb-true, ltb-false, not-false}
 use Rattle.base.specs.Choice.{if_then_else_}
 use Rattle.base.proofs.Choice.{either, either-told, by-test}
 use Rattle.base.proofs.Tests.{and-both}
@@ -136,11 +136,6 @@ numbered By160 i h =
 
 -- a code that has a number is none of the half glyphs
 pub numbered-lead : (n : Numbering) (lead trail i : ℕ) → numberOf n lead trail ≡ Number i → 0xA1 ≤ lead
-unfolding numberOf
-numbered-lead By96 lead trail i =
-    either-told (λ (c : Code). c ≡ Number i → 0xA1 ≤ lead) (leb 0xA1 lead && (leb lead 0xF7 && leb 0xA0 trail))
-    (λ t e. leb-true 0xA1 lead (and-both (leb 0xA1 lead) (leb lead 0xF7 && leb 0xA0 trail) t .0))
-    (λ t e. absurd (true≢false cc))
-numbered-lead By160 lead trail i =
-    either-told (λ (c : Code). c ≡ Number i → 0xA1 ≤ lead) (not (leb 0xA1 lead && leb lead 0xD7)) (λ t e. absurd (true≢false cc))
-    (λ t e. leb-true 0xA1 lead (and-both (leb 0xA1 lead) (leb lead 0xD7) (not-false (leb 0xA1 lead && leb lead 0xD7) t) .0))
+numbered-lead n lead trail i e =
+    by-test (leb 0xA1 lead) (leb-true 0xA1 lead)
+    (λ t. let none = unpaged n lead trail (leb-false 0xA1 lead t) in absurd (true≢false cc))
