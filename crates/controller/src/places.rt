@@ -19,7 +19,7 @@ pub fn word_place(word: u8, low: bool) -> usize
     ((word as usize) << 1) + half(low)
 }
 
-// The column of a half of the sixteen words of a row.
+// The column of a half of one of a row's sixteen words.
 pub fn byte_column(word: u32, low: bool) -> u32
     requires { ⌜ word < 16 ⌝ }
     ensures { λ r. ⌜ r ≡ 2 * word + half low ⌝ }

@@ -11,9 +11,9 @@ pub enum Code {
     Number(u16),
 }
 
-// All but 32 of the numbers that each page before has: 64 of 96, or 128 of 160. So a shift gives them, as the small board multiplies in
-// software. The 32 are added where the numberings have not parted yet: of two shifts of one page, both by a constant, a compiler makes
-// one multiplication again.
+// A lead's numbers are a page. Of the numbers on the pages before, all but 32 a page: 64 of 96, or 128 of 160, which is one shift, as the
+// small board multiplies in software. `number` adds the 32s while the numberings have not parted: of two shifts of a page by constants a
+// compiler makes one multiplication again.
 fn all_but_32_each(numbering: Numbering, page: u16) -> u16
     requires { ⌜ page < 256 ⌝ }
     ensures { λ r. ⌜ r + page * 32 ≡ page * perLead numbering ⌝ }
