@@ -1,3 +1,4 @@
 pub mod Kept
+pub mod Serial
 pub mod Doors
 pub mod Fit

@@ -36,7 +36,7 @@ use Rattle.calls.specs.State.{State, state}
 use Rattle.calls.specs.Calls.{Fits, called}
 use Rattle.demands.specs.Wires.{answers, repliesOf, noTime}
 use Rattle.calls.proofs.Kept.{still-fits}
-use Rattle.demands.specs.Demand1.{isSerial}
+use Rattle.links.specs.Idle.{isSerial}
 use Rattle.demands.specs.Readings.{instruct, writeData, readStatus, readData}
 use Rattle.demands.specs.ReadBack.{toText, toGlyph, toGraphic, thereAndBack, bothRead, TakesBytes, ReadBack}
 use Rattle.demands.proofs.Addresses.{says-text, says-glyph, says-graphic}

@@ -38,7 +38,8 @@ use Rattle.playback.proofs.Answers.{answerFrom}
 use Rattle.records.proofs.Refused.{one-or-bits, called-on-accepted, record-timed, record-length}
 use Rattle.playback.proofs.Parts.{contentsReplayed, replayed-place}
 use Rattle.demands.specs.Captures.{callsOf, callsOfAll, lastReply, sumOfCounts, answerOf, answersOf}
-use Rattle.demands.specs.Demand1.{TableSays, isSerial, ofOtherLink, firstOfOtherLink, NoRoom, lineTooLong, uncounted, StopsAt, behindAll, atRecord, noRoom, ReplayStops, TranscriptRefuses, TranscriptTells, ExportedReplayRefuses}
+use Rattle.links.specs.Idle.{isSerial}
+use Rattle.demands.specs.Demand1.{TableSays, ofOtherLink, firstOfOtherLink, NoRoom, lineTooLong, uncounted, StopsAt, behindAll, atRecord, noRoom, ReplayStops, TranscriptRefuses, TranscriptTells, ExportedReplayRefuses}
 use Rattle.demands.proofs.Tables.{orWants, table-number, KindsIn, contents-in}
 use Rattle.demands.proofs.Calls.{call-number}
 

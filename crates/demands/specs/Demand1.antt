@@ -13,7 +13,7 @@ use Rattle.events.specs.declared.Made.{Made}
 use Rattle.events.specs.declared.Event.{Event}
 use Rattle.events.specs.declared.Event.the-variants.{Transfer, Bit, SelectLow, Reset, Pass}
 use Rattle.links.specs.declared.Link.{Link}
-use Rattle.links.specs.declared.Link.the-variants.{Parallel, Serial}
+use Rattle.links.specs.Idle.{isSerial}
 use Rattle.sender.specs.Sender.{sent, leaving}
 use Rattle.picture.specs.Picture.{Seen}
 use Rattle.picture.specs.Refusals.{drawn, drawing}
@@ -57,10 +57,6 @@ abbrev pub BuffersSay : Seen → List ℕ → ℕ → Type 0
 BuffersSay e frame n = TableSays e frame false false n
 
 -- transfers are of the parallel link, serial bits and select-low of the serial one; reset is of both, and time passes on both
-abbrev pub isSerial : Link → Bool
-isSerial (Parallel pairing) = false
-isSerial (Serial receiver) = true
-
 abbrev pub ofOtherLink : Link → Event → Bool
 ofOtherLink link (Transfer t) = isSerial link
 ofOtherLink link (Bit b) = not (isSerial link)

@@ -12,7 +12,7 @@ use Rattle.picture.specs.Picture.{Seen}
 use Rattle.calls.specs.State.{State, Valid}
 use Rattle.calls.specs.Calls.{Fits}
 use Rattle.demands.specs.Wires.{repliesOf, noTime}
-use Rattle.demands.specs.Demand1.{isSerial}
+use Rattle.links.specs.Idle.{isSerial}
 use Rattle.demands.specs.Readings.{instruct, writeData, readStatus, readData}
 
 -- the instructions that set an address: of text (80h + a), of glyph memory (40h + a), of graphic memory (80h + row, 80h + column)

@@ -1,4 +1,4 @@
--- Document 01, "Memories and flags": a link that is idle.
+-- Document 01, "Memories and flags": which of the two a link is, and a link that is idle.
 use mathlib.Core.Bool.{Bool, true, false}
 use Rattle.links.specs.declared.Pairing.the-variants.{Empty}
 use Rattle.serial.specs.Serial.{idleReceiver}
@@ -9,3 +9,7 @@ use Rattle.links.specs.declared.Link.the-variants.{Parallel, Serial}
 abbrev pub idle : Bool → Link
 idle true = Parallel Empty
 idle false = Serial idleReceiver
+
+abbrev pub isSerial : Link → Bool
+isSerial (Parallel pairing) = false
+isSerial (Serial receiver) = true

@@ -18,7 +18,8 @@
 //! A panel may be made with time, as document 02 asks: `time` says when it is
 //! busy, what that loses and what each transfer costs. Clear also sets I/D to
 //! 1, as document 02 asks. And as it asks, a panel has one of two numberings of
-//! full glyphs, chosen when it is made and at each reset.
+//! full glyphs, chosen when it is made and at each reset. Two panels may share
+//! one wire with a select line each, as it asks too: `panel_pair`.
 
 mod bytes;
 mod calls;
@@ -29,6 +30,7 @@ mod links;
 mod memories;
 mod named;
 mod numbering;
+mod panel_pair;
 mod parallel;
 mod picture;
 mod replay;
@@ -43,6 +45,7 @@ pub use links::{Kind, Link, Pair, Receiver, Transfer};
 pub use memories::{Half, Panel, Target};
 pub use named::{named, Named};
 pub use numbering::{full_glyph_number, Numbering};
+pub use panel_pair::{PairOutcome, PanelPair, Selects, Side};
 pub use replay::{printed, replay, Answer, Replayed};
 pub use sender::send;
 

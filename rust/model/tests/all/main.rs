@@ -3,11 +3,14 @@
 
 mod agreement;
 mod bench;
+mod cabinet;
 mod calls;
 mod clear;
 mod data;
 mod instructions;
 mod numbering;
+mod panel_pair;
+mod panel_pair_random;
 mod panel_readings;
 mod parallel;
 mod picture;

@@ -1,0 +1,140 @@
+-- The paths through a call of the pair: refused, or both panels take what comes to them.
+use Prim.Native.Nat.{ℕ}
+use mathlib.Core.Bool.{Bool, true, false, not, _&&_, true≢false}
+use mathlib.Core.List.{List}
+use mathlib.Core.Logic.{_≢_}
+use mathlib.Core.Path.{_≡_, refl, sym, ap, _∙_}
+use native.Mathlib.Omega.{arith}
+use lib.Dec.{eqb}
+use borrow.Author.Tests.{eqb-true, eqb-false, eq-eqb, ne-eqb}
+use Rattle.base.proofs.Choice.{by-test, either}
+use Rattle.events.specs.declared.Event.{Event}
+use Rattle.links.specs.declared.Link.{Link}
+use Rattle.links.specs.Idle.{isSerial}
+use Rattle.picture.specs.Refusals.{lentRefusal}
+use Rattle.controller.specs.declared.Control.{Control}
+use Rattle.controller.specs.Memories.{Memories}
+use Rattle.controller.specs.State.{InRange}
+use Rattle.calls.specs.declared.LentOutcome.{LentOutcome}
+use Rattle.calls.specs.State.{Valid}
+use Rattle.calls.specs.Calls.{Called, Fits, left}
+use Rattle.calls.proofs.Kept.{called-valid}
+use Rattle.calls.proofs.Serial.{TakenSilently, bit-silent, select-low-silent}
+use Rattle.pair.specs.declared.Clock.{Clock}
+use Rattle.pair.specs.declared.Kept.{Kept}
+use Rattle.pair.specs.Pair.{Side, comesTo, toLeft, toRight, firstRefusal, pairRefusal, PairCalled, calledOn, refusedOn, pairCalled}
+use Rattle.pair.specs.Handed.{keptOf, keptState, answered}
+
+-- a side that is not refused
+pub record Ready (x : Side) : Type 0 where
+  pub fits : Fits (x .seen) (x .frame)
+  pub serial : isSerial (x .state .link) ≡ true
+
+pub record BothReady (l r : Side) : Type 0 where
+  pub left : Ready l
+  pub right : Ready r
+
+record NoRefusal (a b : ℕ) (p q : Bool) : Type 0 where
+  first : a ≡ 0
+  second : b ≡ 0
+  third : p ≡ true
+  fourth : q ≡ true
+
+five-or-none : (a b : ℕ) (p q : Bool) → a ≡ 0 → b ≡ 0 → firstRefusal 0 0 (p && q) ≡ 0 → NoRefusal a b p q
+five-or-none a b true true x y h = record { first = x; second = y; third = refl; fourth = refl }
+five-or-none a b true false x y h = absurd (omega (arith, h))
+five-or-none a b false q x y h = absurd (omega (arith, h))
+
+no-refusal : (a b : ℕ) (p q : Bool) → firstRefusal a b (p && q) ≡ 0 → NoRefusal a b p q
+no-refusal a b p q h =
+    by-test (eqb a 0)
+    (λ x. by-test (eqb b 0)
+    (λ y. five-or-none a b p q (eqb-true a 0 x) (eqb-true b 0 y) (rw (eqb-true a 0 x, eqb-true b 0 y) at h))
+    (λ y. absurd (eqb-false b 0 y (rw (x, y) at h))))
+    (λ x. absurd (eqb-false a 0 x (rw x at h)))
+
+pub both-ready : (l r : Side) → pairRefusal l r ≡ 0 → BothReady l r
+unfolding pairRefusal
+both-ready l r h =
+    let none = no-refusal _ _ _ _ h in
+    record { left = record { fits = none .first; serial = none .third }; right = record { fits = none .second; serial = none .fourth } }
+
+pub ready-both : (l r : Side) → BothReady l r → pairRefusal l r ≡ 0
+unfolding pairRefusal
+ready-both l r h = rw (h .left .fits, h .right .fits, h .left .serial, h .right .serial)
+
+-- on such a side what comes at a clock is taken
+pub takes : (x : Side) → Ready x → (select bit : Bool) → TakenSilently (calledOn x (comesTo select bit))
+takes x h true bit = bit-silent (x .seen) (x .state) (x .frame) bit (h .fits) (h .serial)
+takes x h false bit = select-low-silent (x .seen) (x .state) (x .frame) (h .fits) (h .serial)
+
+-- with number 0 and no reply
+abbrev answeredAs : ℕ → Called → Called
+answeredAs n k = answered (k .state) n (k .count) (k .frame)
+
+answered-so : (k : Called) → TakenSilently k → answeredAs 0 k ≡ k
+answered-so k t = ap (λ (x : ℕ). record { state = k .state; number = x; reply = 0; count = k .count; frame = k .frame }) (sym (t .number))
+    ∙ ap (λ (x : ℕ). record { state = k .state; number = k .number; reply = x; count = k .count; frame = k .frame }) (sym (t .reply))
+
+-- what the code has found: each side's refusal, whether each is serial, and the first refusal of them
+module _ (l r : Side) (clock : Clock) {a b n : ℕ} {p q : Bool} (left-refusal : a ≡ lentRefusal (l .seen) (l .frame)) (right-refusal : b ≡ lentRefusal (r .seen) (r .frame)) (left-serial : p ≡ isSerial (l .state .link)) (right-serial : q ≡ isSerial (r .state .link)) (first : n ≡ firstRefusal a b (p && q)) where
+  number-is : n ≡ pairRefusal l r
+  unfolding pairRefusal
+  number-is = rw (left-refusal, right-refusal, left-serial, right-serial) at first
+
+  pub refuses : n ≢ 0 → record { left = refusedOn l n; right = refusedOn r n } ≡ pairCalled l r clock
+  unfolding pairCalled
+  refuses h = rw (← number-is, ne-eqb n 0 h)
+
+  pub accepts :
+      n ≡ 0
+      → {to-left to-right : Event}
+      → to-left ≡ toLeft clock
+      → to-right ≡ toRight clock
+      → (x y : Called)
+      → x ≡ calledOn l to-left
+      → y ≡ calledOn r to-right
+      → record { left = answeredAs n x; right = answeredAs n y } ≡ pairCalled l r clock
+  unfolding pairCalled
+  accepts h tl tr x y hx hy =
+      let ready = both-ready l r (sym number-is ∙ h) in
+      rw (← number-is, h, hx, hy, tl, tr, answered-so _ (takes l (ready .left) (clock .left) (clock .bit)), answered-so _ (takes r (ready .right) (clock .right) (clock .bit)))
+
+  -- on lent memories
+  pub accepts-lent :
+      n ≡ 0
+      → {to-left to-right : Event}
+      → to-left ≡ toLeft clock
+      → to-right ≡ toRight clock
+      → (x y : LentOutcome) (lm rm : Memories) (lf rf : List ℕ)
+      → left x lm lf ≡ calledOn l to-left
+      → left y rm rf ≡ calledOn r to-right
+      → (j k : Kept)
+      → j ≡ keptOf x
+      → k ≡ keptOf y
+      → record { left = answered (keptState lm j) n (x .count) lf; right = answered (keptState rm k) n (y .count) rf } ≡ pairCalled l r clock
+  accepts-lent h tl tr x y lm rm lf rf hx hy j k hj hk = rw (hj, hk) (accepts h tl tr (left x lm lf) (left y rm rf) hx hy)
+
+pub kept-in-range : {c : Control} {l : Link} {k : Kept} → k ≡ record { control = c; link = l } → InRange c → InRange (k .control)
+kept-in-range h v = rw h v
+
+-- a valid pair stays valid
+pub pair-valid :
+    (l r : Side) (clock : Clock)
+    → Valid (l .state)
+    → Valid (r .state)
+    → Valid (pairCalled l r clock .left .state) × Valid (pairCalled l r clock .right .state)
+unfolding pairCalled
+pair-valid l r clock vl vr =
+    either (λ (k : PairCalled). Valid (k .left .state) × Valid (k .right .state)) (eqb (pairRefusal l r) 0)
+    (called-valid (l .seen) (l .state) (l .frame) (toLeft clock) vl, called-valid (r .seen) (r .state) (r .frame) (toRight clock) vr)
+    (vl, vr)
+
+-- and what is left of it
+pub handed-valid :
+    (l r : Side) (clock : Clock) (k : PairCalled)
+    → k ≡ pairCalled l r clock
+    → Valid (l .state)
+    → Valid (r .state)
+    → Valid (k .left .state) × Valid (k .right .state)
+handed-valid l r clock k is vl vr = rw is (pair-valid l r clock vl vr)

@@ -1,0 +1,102 @@
+// A clock of the wire on memories that a board keeps and lends. It leaves what the call by value leaves.
+use crate::Clock;
+use crate::Counts;
+use crate::Kept;
+use crate::LentPairOutcome;
+use crate::wire::comes_to;
+use crate::wire::first_refusal;
+use crate::wire::is_serial;
+use calls::LentOutcome;
+use calls::call;
+use picture::refusals::refusal;
+ghost use mathlib.Core.Path.{_≡_};
+ghost use Rattle.controller.specs.Memories.{before, after};
+ghost use Rattle.controller.specs.State.{InRange};
+ghost use Rattle.picture.specs.Picture.{seen};
+ghost use Rattle.pair.specs.Pair.{side, pairCalled};
+ghost use Rattle.pair.specs.Handed.{keptOf, keptState, pairLeft};
+
+fn kept(answer: LentOutcome) -> Kept
+    ensures { λ r. ⌜ r ≡ keptOf answer ⌝ }
+{
+    let control = answer.control;
+    let link = answer.link;
+    Kept { control, link }
+}
+
+pub fn pair_bit(
+    left_text: &mut [u8; 128],
+    left_glyph: &mut [u8; 128],
+    left_graphic: &mut [u8; 2048],
+    left: Kept,
+    right_text: &mut [u8; 128],
+    right_glyph: &mut [u8; 128],
+    right_graphic: &mut [u8; 2048],
+    right: Kept,
+    clock: Clock,
+    left_frame: &mut [u8],
+    left_half: &[u8],
+    left_full: &[u8],
+    left_phase: bool,
+    right_frame: &mut [u8],
+    right_half: &[u8],
+    right_full: &[u8],
+    right_phase: bool,
+) -> LentPairOutcome
+    requires { ⌜ InRange (left .control) × InRange (right .control) ⌝ }
+    ensures { λ r. ⌜ pairLeft r (after «left_text» «left_glyph» «left_graphic») (after «right_text» «right_glyph» «right_graphic») (now («left_frame» .exit)) (now («right_frame» .exit)) ≡ pairCalled (side (seen «left_half» «left_full» «left_phase») (keptState (before «left_text» «left_glyph» «left_graphic») left) (now («left_frame» .entry))) (side (seen «right_half» «right_full» «right_phase») (keptState (before «right_text» «right_glyph» «right_graphic») right) (now («right_frame» .entry))) clock ⌝ }
+    ensures valid { λ r. ⌜ InRange (r .left .control) × InRange (r .right .control) ⌝ }
+{
+    let left_refusal = refusal(left_frame.len(), left_half.len(), left_full.len());
+    let right_refusal = refusal(right_frame.len(), right_half.len(), right_full.len());
+    let left_control = left.control;
+    let left_link = left.link;
+    let right_control = right.control;
+    let right_link = right.link;
+    let left_serial = is_serial(left_link);
+    let right_serial = is_serial(right_link);
+    let number = first_refusal(left_refusal, right_refusal, left_serial & right_serial);
+    if number != 0 {
+        return LentPairOutcome {
+            left,
+            right,
+            number,
+            counts: Counts { left: 0, right: 0 },
+        };
+    }
+    let to_left = comes_to(clock.left, clock.bit);
+    let to_right = comes_to(clock.right, clock.bit);
+    let on_left = call(
+        left_text,
+        left_glyph,
+        left_graphic,
+        left_control,
+        left_link,
+        to_left,
+        left_frame,
+        left_half,
+        left_full,
+        left_phase,
+    );
+    let on_right = call(
+        right_text,
+        right_glyph,
+        right_graphic,
+        right_control,
+        right_link,
+        to_right,
+        right_frame,
+        right_half,
+        right_full,
+        right_phase,
+    );
+    LentPairOutcome {
+        left: kept(on_left),
+        right: kept(on_right),
+        number,
+        counts: Counts {
+            left: on_left.count,
+            right: on_right.count,
+        },
+    }
+}
