@@ -1,15 +1,14 @@
 // A clock of the wire by value: the pair goes in, and the next one is handed on.
-use crate::Clock;
-use crate::Kept;
 use crate::Pair;
 use crate::PairOutcome;
-use crate::lent::pair_bit;
+use lent_pair::Clock;
+use lent_pair::Kept;
 use panel::Panel;
 ghost use mathlib.Core.Path.{_≡_};
 ghost use Rattle.picture.specs.Picture.{seen};
 ghost use Rattle.calls.specs.State.{Valid};
 ghost use Rattle.panel.specs.Handed.{stateOf};
-ghost use Rattle.pair.specs.Pair.{side, pairCalled};
+ghost use Rattle.lent_pair.specs.Pair.{side, pairCalled};
 ghost use Rattle.pair.specs.Handed.{panelOf, pairHanded};
 
 // The memories as a call left them, and what else a panel has.
@@ -65,7 +64,7 @@ impl Pair {
             control: right_control,
             link: right_link,
         };
-        let answer = pair_bit(
+        let answer = lent_pair::bit(
             &mut left_text,
             &mut left_glyph,
             &mut left_graphic,

@@ -1,6 +1,6 @@
 -- What the call on lent memories leaves, put together.
 use borrow.Author.Needs.{needs}
-use Rattle.pair.proofs.Both.{handed-valid}
+use Rattle.lent_pair.proofs.Both.{handed-valid}
 use Rattle.pair.proofs.Pair.bit.Statement.{statement}
 use Rattle.pair.proofs.Pair.bit.Tie as tie
 
@@ -17,4 +17,4 @@ bit-spec =
     let at-call = c .before .before .before .before .before .before .before in
     let start = at-call .before .before .before .before .before .before .before .before .before .before .before .before .before .before .before .before .before .before .before .before .before .before .before .before .before in
     rw (c .before .panel2 .ensures, c .before .before .panel .ensures)
-    (at-call .pair-bit .ensures .0, handed-valid _ _ _ _ (at-call .pair-bit .ensures .0) (start .pre .0) (start .pre .1))))
+    (at-call .bit .ensures .0, handed-valid _ _ _ _ (at-call .bit .ensures .0) (start .pre .0) (start .pre .1))))

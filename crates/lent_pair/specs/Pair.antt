@@ -11,7 +11,7 @@ use Rattle.picture.specs.Picture.{Seen}
 use Rattle.picture.specs.Refusals.{lentRefusal}
 use Rattle.calls.specs.State.{State}
 use Rattle.calls.specs.Calls.{Called, refused, called}
-use Rattle.pair.specs.declared.Clock.{Clock}
+use Rattle.lent_pair.specs.declared.Clock.{Clock}
 
 -- a side: what its panel is lent for the picture, its panel's state, and its frame
 pub record Side : Type 0 where

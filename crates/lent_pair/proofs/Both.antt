@@ -20,10 +20,10 @@ use Rattle.calls.specs.State.{Valid}
 use Rattle.calls.specs.Calls.{Called, Fits, left}
 use Rattle.calls.proofs.Kept.{called-valid}
 use Rattle.calls.proofs.Serial.{TakenSilently, bit-silent, select-low-silent}
-use Rattle.pair.specs.declared.Clock.{Clock}
-use Rattle.pair.specs.declared.Kept.{Kept}
-use Rattle.pair.specs.Pair.{Side, comesTo, toLeft, toRight, firstRefusal, pairRefusal, PairCalled, calledOn, refusedOn, pairCalled}
-use Rattle.pair.specs.Handed.{keptOf, keptState, answered}
+use Rattle.lent_pair.specs.declared.Clock.{Clock}
+use Rattle.lent_pair.specs.declared.Kept.{Kept}
+use Rattle.lent_pair.specs.Pair.{Side, comesTo, toLeft, toRight, firstRefusal, pairRefusal, PairCalled, calledOn, refusedOn, pairCalled}
+use Rattle.lent_pair.specs.Left.{keptOf, keptState, answered}
 
 -- a side that is not refused
 pub record Ready (x : Side) : Type 0 where

@@ -1,8 +1,8 @@
 -- Refused, or what the two calls leave. The long needs stand by themselves, as one declaration may take only so many steps.
 use borrow.Author.Needs.{needs}
-use Rattle.pair.proofs.Both.{refuses, accepts-lent, kept-in-range}
-use Rattle.pair.proofs.lent.pair_bit.Statement.{statement}
-use Rattle.pair.proofs.lent.pair_bit.Tie as tie
+use Rattle.lent_pair.proofs.Both.{refuses, accepts-lent, kept-in-range}
+use Rattle.lent_pair.proofs.lent.bit.Statement.{statement}
+use Rattle.lent_pair.proofs.lent.bit.Tie as tie
 
 refused : tie.Need-returns
 refused c =
@@ -28,8 +28,8 @@ both-called c =
     let at-left = at-right .before in
     (accepts-lent _ _ _ (at-left .refusal .ensures) (at-right .refusal2 .ensures) (at-left-serial .is-serial .ensures) (at-right-serial .is-serial2 .ensures) (at-number .first-refusal .ensures) (at-test .if1 .left) (to-left .comes-to .ensures) (to-right .comes-to2 .ensures) _ _ _ _ _ _ (on-left .call .ensures .0) (on-right .call2 .ensures .0) _ _ (c .before .kept .ensures) (c .kept2 .ensures), (kept-in-range (c .before .kept .ensures) (on-left .call .ensures .1), kept-in-range (c .kept2 .ensures) (on-right .call2 .ensures .1)))
 
-pub pair-bit-spec : {M : Type 1} → statement M
-pair-bit-spec =
+pub bit-spec : {M : Type 1} → statement M
+bit-spec =
     tie.close
     (tie.spec
     (λ c κs. search needs)

@@ -3,7 +3,7 @@ use events::Event;
 use links::Link;
 ghost use mathlib.Core.Path.{_≡_};
 ghost use Rattle.links.specs.Idle.{isSerial};
-ghost use Rattle.pair.specs.Pair.{comesTo, firstRefusal};
+ghost use Rattle.lent_pair.specs.Pair.{comesTo, firstRefusal};
 
 // The bit where the panel's select is high; else that its select is low.
 pub(crate) fn comes_to(select: bool, bit: bool) -> Event

@@ -13,8 +13,8 @@ ghost use mathlib.Core.Path.{_≡_};
 ghost use Rattle.controller.specs.Memories.{before, after};
 ghost use Rattle.controller.specs.State.{InRange};
 ghost use Rattle.picture.specs.Picture.{seen};
-ghost use Rattle.pair.specs.Pair.{side, pairCalled};
-ghost use Rattle.pair.specs.Handed.{keptOf, keptState, pairLeft};
+ghost use Rattle.lent_pair.specs.Pair.{side, pairCalled};
+ghost use Rattle.lent_pair.specs.Left.{keptOf, keptState, pairLeft};
 
 fn kept(answer: LentOutcome) -> Kept
     ensures { λ r. ⌜ r ≡ keptOf answer ⌝ }
@@ -24,7 +24,7 @@ fn kept(answer: LentOutcome) -> Kept
     Kept { control, link }
 }
 
-pub fn pair_bit(
+pub fn bit(
     left_text: &mut [u8; 128],
     left_glyph: &mut [u8; 128],
     left_graphic: &mut [u8; 2048],

@@ -1,7 +1,7 @@
 -- Each refusal at its turn.
 use borrow.Author.Tests.{eq-eqb, ne-eqb}
-use Rattle.pair.proofs.wire.first_refusal.Statement.{statement}
-use Rattle.pair.proofs.wire.first_refusal.Tie as tie
+use Rattle.lent_pair.proofs.wire.first_refusal.Statement.{statement}
+use Rattle.lent_pair.proofs.wire.first_refusal.Tie as tie
 
 pub first-refusal-spec : {M : Type 1} → statement M
 first-refusal-spec =

@@ -1,6 +1,6 @@
 use borrow.Author.Needs.{needs}
-use Rattle.pair.proofs.wire.comes_to.Statement.{statement}
-use Rattle.pair.proofs.wire.comes_to.Tie as tie
+use Rattle.lent_pair.proofs.wire.comes_to.Statement.{statement}
+use Rattle.lent_pair.proofs.wire.comes_to.Tie as tie
 
 pub comes-to-spec : {M : Type 1} → statement M
 comes-to-spec =

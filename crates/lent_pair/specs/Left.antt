@@ -1,0 +1,26 @@
+-- What a call of the pair on lent memories leaves: one number for both panels, no reply, and a count for each.
+use Prim.Native.Nat.{ℕ}
+use mathlib.Core.List.{List}
+use Rattle.controller.specs.Memories.{Memories}
+use Rattle.calls.specs.declared.LentOutcome.{LentOutcome}
+use Rattle.calls.specs.State.{State, state}
+use Rattle.calls.specs.Calls.{Called}
+use Rattle.lent_pair.specs.declared.Kept.{Kept}
+use Rattle.lent_pair.specs.declared.LentPairOutcome.{LentPairOutcome}
+use Rattle.lent_pair.specs.Pair.{PairCalled}
+
+abbrev pub keptOf : LentOutcome → Kept
+keptOf a = record { control = a .control; link = a .link }
+
+abbrev pub keptState : Memories → Kept → State
+keptState m kept = state m (kept .control) (kept .link)
+
+abbrev pub answered : State → ℕ → ℕ → List ℕ → Called
+answered s number count frame = record { state = s; number = number; reply = 0; count = count; frame = frame }
+
+abbrev pub pairLeft : LentPairOutcome → Memories → Memories → List ℕ → List ℕ → PairCalled
+pairLeft r leftMemories rightMemories leftFrame rightFrame =
+    record {
+      left = answered (keptState leftMemories (r .left)) (r .number) (r .counts .left) leftFrame;
+      right = answered (keptState rightMemories (r .right)) (r .number) (r .counts .right) rightFrame;
+    }
