@@ -9,7 +9,6 @@ use lib.Dec.{eqb}
 use borrow.Author.Tests.{eqb-true, eqb-false, eq-eqb, ne-eqb}
 use Rattle.base.proofs.Choice.{by-test, either}
 use Rattle.events.specs.declared.Event.{Event}
-use Rattle.links.specs.declared.Link.{Link}
 use Rattle.links.specs.Idle.{isSerial}
 use Rattle.picture.specs.Refusals.{lentRefusal}
 use Rattle.controller.specs.declared.Control.{Control}
@@ -21,9 +20,9 @@ use Rattle.calls.specs.Calls.{Called, Fits, left}
 use Rattle.calls.proofs.Kept.{called-valid}
 use Rattle.calls.proofs.Serial.{TakenSilently, bit-silent, select-low-silent}
 use Rattle.lent_pair.specs.declared.Clock.{Clock}
-use Rattle.lent_pair.specs.declared.Kept.{Kept}
+use Rattle.lent_pair.specs.declared.LentPairOutcome.{LentPairOutcome}
 use Rattle.lent_pair.specs.Pair.{Side, comesTo, toLeft, toRight, firstRefusal, pairRefusal, PairCalled, calledOn, refusedOn, pairCalled}
-use Rattle.lent_pair.specs.Left.{keptOf, keptState, answered}
+use Rattle.lent_pair.specs.Left.{bothAnswered, answered, pairLeft}
 
 -- a side that is not refused
 pub record Ready (x : Side) : Type 0 where
@@ -73,14 +72,15 @@ abbrev answeredAs : ℕ → Called → Called
 answeredAs n k = answered (k .state) n (k .count) (k .frame)
 
 answered-so : (k : Called) → TakenSilently k → answeredAs 0 k ≡ k
-answered-so k t = ap (λ (x : ℕ). record { state = k .state; number = x; reply = 0; count = k .count; frame = k .frame }) (sym (t .number))
+answered-so k t =
+    ap (λ (x : ℕ). record { state = k .state; number = x; reply = 0; count = k .count; frame = k .frame }) (sym (t .number))
     ∙ ap (λ (x : ℕ). record { state = k .state; number = k .number; reply = x; count = k .count; frame = k .frame }) (sym (t .reply))
 
--- what the code has found: each side's refusal, whether each is serial, and the first refusal of them
-module _ (l r : Side) (clock : Clock) {a b n : ℕ} {p q : Bool} (left-refusal : a ≡ lentRefusal (l .seen) (l .frame)) (right-refusal : b ≡ lentRefusal (r .seen) (r .frame)) (left-serial : p ≡ isSerial (l .state .link)) (right-serial : q ≡ isSerial (r .state .link)) (first : n ≡ firstRefusal a b (p && q)) where
+-- what the code has found: whether each side is serial, and the first refusal
+module _ (l r : Side) (clock : Clock) {n : ℕ} {p q : Bool} (left-serial : p ≡ isSerial (l .state .link)) (right-serial : q ≡ isSerial (r .state .link)) (first : n ≡ firstRefusal (lentRefusal (l .seen) (l .frame)) (lentRefusal (r .seen) (r .frame)) (p && q)) where
   number-is : n ≡ pairRefusal l r
   unfolding pairRefusal
-  number-is = rw (left-refusal, right-refusal, left-serial, right-serial) at first
+  number-is = rw (left-serial, right-serial) at first
 
   pub refuses : n ≢ 0 → record { left = refusedOn l n; right = refusedOn r n } ≡ pairCalled l r clock
   unfolding pairCalled
@@ -91,32 +91,31 @@ module _ (l r : Side) (clock : Clock) {a b n : ℕ} {p q : Bool} (left-refusal :
       → {to-left to-right : Event}
       → to-left ≡ toLeft clock
       → to-right ≡ toRight clock
-      → (x y : Called)
+      → {x y : Called}
       → x ≡ calledOn l to-left
       → y ≡ calledOn r to-right
-      → record { left = answeredAs n x; right = answeredAs n y } ≡ pairCalled l r clock
+      → record { left = answeredAs 0 x; right = answeredAs 0 y } ≡ pairCalled l r clock
   unfolding pairCalled
-  accepts h tl tr x y hx hy =
+  accepts h tl tr hx hy =
       let ready = both-ready l r (sym number-is ∙ h) in
       rw (← number-is, h, hx, hy, tl, tr, answered-so _ (takes l (ready .left) (clock .left) (clock .bit)), answered-so _ (takes r (ready .right) (clock .right) (clock .bit)))
 
-  -- on lent memories
+  -- and so on lent memories
   pub accepts-lent :
       n ≡ 0
       → {to-left to-right : Event}
       → to-left ≡ toLeft clock
       → to-right ≡ toRight clock
-      → (x y : LentOutcome) (lm rm : Memories) (lf rf : List ℕ)
+      → {x y : LentOutcome} {lm rm : Memories} {lf rf : List ℕ}
       → left x lm lf ≡ calledOn l to-left
       → left y rm rf ≡ calledOn r to-right
-      → (j k : Kept)
-      → j ≡ keptOf x
-      → k ≡ keptOf y
-      → record { left = answered (keptState lm j) n (x .count) lf; right = answered (keptState rm k) n (y .count) rf } ≡ pairCalled l r clock
-  accepts-lent h tl tr x y lm rm lf rf hx hy j k hj hk = rw (hj, hk) (accepts h tl tr (left x lm lf) (left y rm rf) hx hy)
+      → {o : LentPairOutcome}
+      → o ≡ bothAnswered x y
+      → pairLeft o lm rm lf rf ≡ pairCalled l r clock
+  accepts-lent h tl tr hx hy ho = rw ho (accepts h tl tr hx hy)
 
-pub kept-in-range : {c : Control} {l : Link} {k : Kept} → k ≡ record { control = c; link = l } → InRange c → InRange (k .control)
-kept-in-range h v = rw h v
+pub both-in-range : {a b c d : Control} → a ≡ c → b ≡ d → InRange c → InRange d → InRange a × InRange b
+both-in-range h g v w = (rw h v, rw g w)
 
 -- a valid pair stays valid
 pub pair-valid :

@@ -12,6 +12,14 @@ use Rattle.lent_pair.specs.Pair.{PairCalled}
 abbrev pub keptOf : LentOutcome → Kept
 keptOf a = record { control = a .control; link = a .link }
 
+-- the answer of two calls that are accepted, and of a refused one
+abbrev pub bothAnswered : LentOutcome → LentOutcome → LentPairOutcome
+bothAnswered left right =
+    record { left = keptOf left; right = keptOf right; number = 0; counts = record { left = left .count; right = right .count } }
+
+abbrev pub bothRefused : Kept → Kept → ℕ → LentPairOutcome
+bothRefused left right number = record { left = left; right = right; number = number; counts = record { left = 0; right = 0 } }
+
 abbrev pub keptState : Memories → Kept → State
 keptState m kept = state m (kept .control) (kept .link)
 

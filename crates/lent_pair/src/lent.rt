@@ -8,20 +8,47 @@ use crate::wire::first_refusal;
 use crate::wire::is_serial;
 use calls::LentOutcome;
 use calls::call;
-use picture::refusals::refusal;
 ghost use mathlib.Core.Path.{_≡_};
 ghost use Rattle.controller.specs.Memories.{before, after};
 ghost use Rattle.controller.specs.State.{InRange};
 ghost use Rattle.picture.specs.Picture.{seen};
 ghost use Rattle.lent_pair.specs.Pair.{side, pairCalled};
-ghost use Rattle.lent_pair.specs.Left.{keptOf, keptState, pairLeft};
+ghost use Rattle.lent_pair.specs.Left.{keptOf, bothAnswered, bothRefused, keptState, pairLeft};
 
+// What a side keeps of its call's answer.
 fn kept(answer: LentOutcome) -> Kept
     ensures { λ r. ⌜ r ≡ keptOf answer ⌝ }
 {
     let control = answer.control;
     let link = answer.link;
     Kept { control, link }
+}
+
+// Both calls were accepted.
+fn both(left: LentOutcome, right: LentOutcome) -> LentPairOutcome
+    ensures { λ r. ⌜ r ≡ bothAnswered left right ⌝ }
+{
+    LentPairOutcome {
+        left: kept(left),
+        right: kept(right),
+        number: 0,
+        counts: Counts {
+            left: left.count,
+            right: right.count,
+        },
+    }
+}
+
+// Nothing changes on either side, and no byte is named.
+fn refused(left: Kept, right: Kept, number: u8) -> LentPairOutcome
+    ensures { λ r. ⌜ r ≡ bothRefused left right number ⌝ }
+{
+    LentPairOutcome {
+        left,
+        right,
+        number,
+        counts: Counts { left: 0, right: 0 },
+    }
 }
 
 pub fn bit(
@@ -47,25 +74,26 @@ pub fn bit(
     ensures { λ r. ⌜ pairLeft r (after «left_text» «left_glyph» «left_graphic») (after «right_text» «right_glyph» «right_graphic») (now («left_frame» .exit)) (now («right_frame» .exit)) ≡ pairCalled (side (seen «left_half» «left_full» «left_phase») (keptState (before «left_text» «left_glyph» «left_graphic») left) (now («left_frame» .entry))) (side (seen «right_half» «right_full» «right_phase») (keptState (before «right_text» «right_glyph» «right_graphic») right) (now («right_frame» .entry))) clock ⌝ }
     ensures valid { λ r. ⌜ InRange (r .left .control) × InRange (r .right .control) ⌝ }
 {
-    let left_refusal = refusal(left_frame.len(), left_half.len(), left_full.len());
-    let right_refusal = refusal(right_frame.len(), right_half.len(), right_full.len());
-    let left_control = left.control;
     let left_link = left.link;
-    let right_control = right.control;
     let right_link = right.link;
     let left_serial = is_serial(left_link);
     let right_serial = is_serial(right_link);
-    let number = first_refusal(left_refusal, right_refusal, left_serial & right_serial);
+    let number = first_refusal(
+        left_frame.len(),
+        left_half.len(),
+        left_full.len(),
+        right_frame.len(),
+        right_half.len(),
+        right_full.len(),
+        left_serial & right_serial,
+    );
     if number != 0 {
-        return LentPairOutcome {
-            left,
-            right,
-            number,
-            counts: Counts { left: 0, right: 0 },
-        };
+        return refused(left, right, number);
     }
     let to_left = comes_to(clock.left, clock.bit);
     let to_right = comes_to(clock.right, clock.bit);
+    let left_control = left.control;
+    let right_control = right.control;
     let on_left = call(
         left_text,
         left_glyph,
@@ -90,13 +118,5 @@ pub fn bit(
         right_full,
         right_phase,
     );
-    LentPairOutcome {
-        left: kept(on_left),
-        right: kept(on_right),
-        number,
-        counts: Counts {
-            left: on_left.count,
-            right: on_right.count,
-        },
-    }
+    both(on_left, on_right)
 }
