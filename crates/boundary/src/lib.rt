@@ -1,5 +1,7 @@
 // Functions for C or Rust to link: numbers and byte slices alone cross the border. A state crosses it as 2,341 bytes, and its controls
-// alone as 27 of them. Nothing is asked of a caller.
+// alone as 27 of them. Nothing is asked of a caller. Two panels on one wire are in `pair`.
+mod pair;
+
 use controller::controls::numbering;
 use events::Made;
 use panel::Panel;

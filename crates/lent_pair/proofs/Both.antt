@@ -1,5 +1,5 @@
 -- The paths through a call of the pair: refused, or both panels take what comes to them.
-use Prim.Native.Nat.{ℕ}
+use Prim.Native.Nat.{ℕ, _≤_}
 use mathlib.Core.Bool.{Bool, true, false, not, _&&_, true≢false}
 use mathlib.Core.List.{List}
 use mathlib.Core.Logic.{_≢_}
@@ -7,7 +7,7 @@ use mathlib.Core.Path.{_≡_, refl, sym, ap, _∙_}
 use native.Mathlib.Omega.{arith}
 use lib.Dec.{eqb}
 use borrow.Author.Tests.{eqb-true, eqb-false, eq-eqb, ne-eqb}
-use Rattle.base.proofs.Choice.{by-test, either}
+use Rattle.base.proofs.Choice.{by-test, either, either-told}
 use Rattle.events.specs.declared.Event.{Event}
 use Rattle.links.specs.Idle.{isSerial}
 use Rattle.picture.specs.Refusals.{lentRefusal}
@@ -17,7 +17,7 @@ use Rattle.controller.specs.State.{InRange}
 use Rattle.calls.specs.declared.LentOutcome.{LentOutcome}
 use Rattle.calls.specs.State.{Valid}
 use Rattle.calls.specs.Calls.{Called, Fits, left}
-use Rattle.calls.proofs.Kept.{called-valid}
+use Rattle.calls.proofs.Kept.{called-valid, called-count}
 use Rattle.calls.proofs.Serial.{TakenSilently, bit-silent, select-low-silent}
 use Rattle.lent_pair.specs.declared.Clock.{Clock}
 use Rattle.lent_pair.specs.declared.LentPairOutcome.{LentPairOutcome}
@@ -137,3 +137,28 @@ pub handed-valid :
     → Valid (r .state)
     → Valid (k .left .state) × Valid (k .right .state)
 handed-valid l r clock k is vl vr = rw is (pair-valid l r clock vl vr)
+
+-- no count passes that of a frame's bytes
+pub left-count : (l r : Side) (clock : Clock) → pairCalled l r clock .left .count ≤ 1024
+unfolding pairCalled
+left-count l r clock =
+    either (λ (k : PairCalled). k .left .count ≤ 1024) (eqb (pairRefusal l r) 0)
+    (called-count (l .seen) (l .state) (l .frame) (toLeft clock)) (omega arith)
+
+pub right-count : (l r : Side) (clock : Clock) → pairCalled l r clock .right .count ≤ 1024
+unfolding pairCalled
+right-count l r clock =
+    either (λ (k : PairCalled). k .right .count ≤ 1024) (eqb (pairRefusal l r) 0)
+    (called-count (r .seen) (r .state) (r .frame) (toRight clock)) (omega arith)
+
+-- a call with a refusal number has changed nothing
+pub pair-unmoved :
+    (l r : Side) (clock : Clock)
+    → pairCalled l r clock .left .number ≢ 0
+    → pairCalled l r clock ≡ record { left = refusedOn l (pairRefusal l r); right = refusedOn r (pairRefusal l r) }
+unfolding pairCalled
+pair-unmoved l r clock =
+    either-told (λ (k : PairCalled). k .left .number ≢ 0 → k ≡ record { left = refusedOn l (pairRefusal l r); right = refusedOn r (pairRefusal l r) })
+    (eqb (pairRefusal l r) 0)
+    (λ t h. absurd (h (takes l (both-ready l r (eqb-true _ 0 t) .left) (clock .left) (clock .bit) .number)))
+    (λ t h. refl)

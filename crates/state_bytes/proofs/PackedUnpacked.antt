@@ -3,7 +3,7 @@ use Prim.Native.Nat.{ℕ, _+_, _*_, _<_}
 use mathlib.Core.Bool.{Bool, true, false}
 use mathlib.Core.List.{List, [], _∷_}
 use mathlib.Core.Path.{_≡_, refl}
-use native.Mathlib.Nat.{mod-eq-of-lt}
+use native.Mathlib.Nat.{mod-eq-of-lt, min-eq-left, min-le-right}
 use native.Mathlib.Omega.{arith}
 use lib.ListN.{length, getD}
 use Rattle.events.specs.declared.Numbering.{Numbering}
@@ -65,4 +65,28 @@ unpacked-packed c r =
       lines-read (c .view .reversed) (r .lines),
       numbering-read (c .view .numbering),
       remaining-read (c .time .remaining),
+      min-eq-left (r .remaining),
     )
+
+-- and whatever bytes they are, the controls that they spell are in range
+counter-within : (t : Target) (n : ℕ) → counterFrom t n < limit t
+counter-within Text n = omega arith
+counter-within Glyph n = omega arith
+counter-within Graphic n = omega arith
+
+waiting-within : (waits : Bool) (n : ℕ) → RowInRange (waitingFrom waits n)
+waiting-within true n = omega arith
+waiting-within false n = tt
+
+pub unpacked-in-range : (b : List ℕ) → InRange (unpacked b)
+unfolding unpacked placeFrom viewFrom
+unpacked-in-range b =
+    record {
+      counter = counter-within (targetFrom (getD b 0 0)) (getD b 1 0);
+      row = omega arith;
+      waiting = waiting-within (flag (getD b 5 0)) (getD b 6 0);
+      scroll = omega arith;
+      shift = omega arith;
+      lines = refl;
+      remaining = min-le-right _ _;
+    }

@@ -1,7 +1,7 @@
 -- The controls as bytes: target, counter, row, half next, dummy due, whether a row waits and which, I/D, S, display, cursor, blink,
 -- DL, RE, G, SR, standby, scroll, shift, the four reversed lines, whether there is time, the time that remains in two bytes, the high one
 -- first, and the numbering. A flag is bit 0 of its byte, a number the bits it has room for.
-use Prim.Native.Nat.{ℕ, _+_, _*_, _/_, _%_}
+use Prim.Native.Nat.{ℕ, _+_, _*_, _/_, _%_, min}
 use mathlib.Core.Bool.{Bool, false}
 use mathlib.Core.List.{List, [], _∷_}
 use lib.ListN.{getD}
@@ -17,7 +17,7 @@ use Rattle.controller.specs.declared.Place.{Place}
 use Rattle.controller.specs.declared.View.{View}
 use Rattle.controller.specs.declared.Time.{Time}
 use Rattle.controller.specs.declared.Control.{Control}
-use Rattle.controller.specs.State.{numberingOf}
+use Rattle.controller.specs.State.{numberingOf, longest}
 
 abbrev pub flag : ℕ → Bool
 flag byte = eqb (byte % 2) 1
@@ -34,9 +34,9 @@ counterFrom Graphic byte = byte % 16
 abbrev pub waitingFrom : Bool → ℕ → Waiting
 waitingFrom waits row = if waits then Row (row % 64) else Nothing
 
--- the time that remains has 16 bits here, more than a panel's ever is
+-- the time that remains has 16 bits here, and more than a panel's longest counts as that
 abbrev pub timeFrom : ℕ → ℕ → ℕ → Time
-timeFrom timed high low = record { timed = flag timed; remaining = high * 256 + low }
+timeFrom timed high low = record { timed = flag timed; remaining = min (high * 256 + low) (longest (flag timed)) }
 
 unfoldable pub placeFrom : List ℕ → Place
 placeFrom b =

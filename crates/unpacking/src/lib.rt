@@ -1,5 +1,5 @@
 // The controls that 27 bytes spell, in the order in which `unpacked` reads them. A byte that is out of range counts by the bits that it
-// should have; of the time that remains all 16 count.
+// should have; of the time that remains all 16 count, and more than a panel's longest counts as that.
 use controller::Control;
 use controller::Entry;
 use controller::Function;
@@ -10,10 +10,14 @@ use controller::View;
 use controller::Waiting;
 use controller::controls::numbering;
 use table::Target;
+
+mod link;
+
+pub use link::unpack_link;
 ghost use mathlib.Core.Path.{_≡_};
 ghost use Rattle.state_bytes.specs.Packed.{flag, targetFrom, counterFrom, waitingFrom, timeFrom, placeFrom, viewFrom, unpacked};
 
-fn flag(byte: u8) -> bool
+pub(crate) fn flag(byte: u8) -> bool
     ensures { λ r. ⌜ r ≡ flag byte ⌝ }
 {
     byte % 2 == 1
@@ -54,9 +58,22 @@ fn waiting(waits: bool, row: u8) -> Waiting
 fn time(timed: u8, high: u8, low: u8) -> Time
     ensures { λ r. ⌜ r ≡ timeFrom timed high low ⌝ }
 {
+    let spelled = high as u16 * 256 + low as u16;
+    if timed % 2 != 1 {
+        return Time {
+            timed: false,
+            remaining: 0,
+        };
+    }
+    if spelled > 1600 {
+        return Time {
+            timed: true,
+            remaining: 1600,
+        };
+    }
     Time {
-        timed: timed % 2 == 1,
-        remaining: high as u16 * 256 + low as u16,
+        timed: true,
+        remaining: spelled,
     }
 }
 

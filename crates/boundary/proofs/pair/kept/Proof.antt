@@ -1,0 +1,12 @@
+-- The parts that the callees give.
+use borrow.Author.Needs.{needs}
+use Rattle.boundary.proofs.pair.kept.Statement.{statement}
+use Rattle.boundary.proofs.pair.kept.Tie as tie
+
+pub kept-spec : {M : Type 1} → statement M
+kept-spec =
+    tie.close
+    (tie.spec
+    (λ c κs. search needs)
+    (λ c κs. search needs)
+    (λ c. rw (c .before .unpack .ensures, c .unpack-link .ensures)))
