@@ -1,4 +1,4 @@
--- What `zifqarell_pair_bit` leaves: a clock of the wire comes to two panels that a board keeps as bytes.
+-- What a clock of the wire leaves where a board keeps the two panels as bytes.
 use Prim.Native.Nat.{ℕ, _+_, _*_, _^_}
 use mathlib.Core.List.{List}
 use lib.Dec.{eqb}

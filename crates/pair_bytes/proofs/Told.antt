@@ -18,7 +18,7 @@ use Rattle.lent_pair.specs.Left.{keptState, pairLeft}
 use Rattle.lent_pair.proofs.Both.{left-count, right-count, pair-unmoved}
 use Rattle.state_bytes.specs.Packed.{unpacked, packed}
 use Rattle.state_bytes.specs.LinkPacked.{linkPacked, unpackedLink}
-use Rattle.boundary.specs.PairReport.{KeptBytes, keptBytes, spelledSide, pairAnswer, pairReport, pairReported}
+use Rattle.pair_bytes.specs.Report.{KeptBytes, keptBytes, spelledSide, pairAnswer, pairReport, pairReported}
 
 abbrev spelledKept : List ℕ → List ℕ → Kept
 spelledKept control link = record { control = unpacked control; link = unpackedLink link }

@@ -1,7 +1,7 @@
 -- The parts that the callees give.
 use borrow.Author.Needs.{needs}
-use Rattle.boundary.proofs.pair.kept.Statement.{statement}
-use Rattle.boundary.proofs.pair.kept.Tie as tie
+use Rattle.pair_bytes.proofs.kept.Statement.{statement}
+use Rattle.pair_bytes.proofs.kept.Tie as tie
 
 pub kept-spec : {M : Type 1} → statement M
 kept-spec =
