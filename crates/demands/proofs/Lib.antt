@@ -18,11 +18,13 @@ pub mod Waits
 pub mod Calm
 pub mod Tables
 pub mod Calls
+pub mod Pairs
 pub mod Replays
 pub mod Demand1
 pub mod Replies
 pub mod Demand2
 pub mod Demand3
+pub mod TwoPanels
 pub mod Readings
 pub mod Addresses
 pub mod Stored

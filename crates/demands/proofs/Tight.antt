@@ -4,8 +4,8 @@ use Rattle.calls.specs.State.{State}
 use Rattle.panel.specs.declared.Panel.{Panel}
 use Rattle.playback.specs.declared.Stop.{Stop}
 use Rattle.playback.specs.Transcript.{Told}
-use Rattle.demands.specs.Tight.{Contract, Tight, PublicCall, contractOf, fresh, call, draw, lentCall, send, read, recordAt, answerNumber, answerTakenWith, readerOver, readerStep}
-use Rattle.demands.specs.Tight.{replay, transcribe, putLast, exportedDraw, exportedSend, exportedReplay, braille, plain, pbm}
+use Rattle.demands.specs.Tight.{Contract, Tight, PublicCall, contractOf, fresh, call, draw, lentCall, pairBit, lentPairBit, send, read, recordAt, answerNumber, answerTakenWith, readerOver, readerStep}
+use Rattle.demands.specs.Tight.{replay, transcribe, putLast, exportedDraw, exportedSend, exportedReplay, exportedPairBit, braille, plain, pbm}
 
 -- the panel of a state
 abbrev panelOf : State → Panel
@@ -51,6 +51,33 @@ tight lentCall =
       frame = k .frame;
     })
     (λ x. refl)
+tight pairBit =
+    tight-by (contractOf pairBit)
+    (λ k. record {
+      outcome = record {
+        pair = record { left = panelOf (k .left .state); right = panelOf (k .right .state) };
+        number = k .left .number;
+        counts = record { left = k .left .count; right = k .right .count };
+      };
+      leftFrame = k .left .frame;
+      rightFrame = k .right .frame;
+    })
+    (λ x. refl)
+tight lentPairBit =
+    tight-by (contractOf lentPairBit)
+    (λ k. record {
+      answer = record {
+        left = record { control = k .left .state .control; link = k .left .state .link };
+        right = record { control = k .right .state .control; link = k .right .state .link };
+        number = k .left .number;
+        counts = record { left = k .left .count; right = k .right .count };
+      };
+      leftMemories = k .left .state .memories;
+      rightMemories = k .right .state .memories;
+      leftFrame = k .left .frame;
+      rightFrame = k .right .frame;
+    })
+    (λ x. refl)
 tight send = tight-by (contractOf send) (λ d. record { result = d .number; buffer = d .buffer }) (λ x. refl)
 tight read = tight-by (contractOf read) (λ x. x) (λ x. refl)
 tight recordAt = tight-by (contractOf recordAt) (λ x. x) (λ x. refl)
@@ -65,6 +92,7 @@ tight putLast = tight-by (contractOf putLast) (λ k. record { result = k .filled
 tight exportedDraw = tight-by (contractOf exportedDraw) (λ d. record { result = d .number; buffer = d .frame }) (λ x. refl)
 tight exportedSend = tight-by (contractOf exportedSend) (λ d. record { result = d .number; buffer = d .buffer }) (λ x. refl)
 tight exportedReplay = tight-by (contractOf exportedReplay) (λ x. x) (λ x. refl)
+tight exportedPairBit = tight-by (contractOf exportedPairBit) (λ x. x) (λ x. refl)
 tight braille = tight-by (contractOf braille) (λ x. x) (λ x. refl)
 tight plain = tight-by (contractOf plain) (λ x. x) (λ x. refl)
 tight pbm = tight-by (contractOf pbm) (λ x. x) (λ x. refl)

@@ -19,6 +19,9 @@ use Rattle.picture.specs.Picture.{Seen}
 use Rattle.picture.specs.Refusals.{drawn, drawing}
 use Rattle.calls.specs.State.{State}
 use Rattle.calls.specs.Calls.{timeless, called, refused, afterCalls}
+use Rattle.lent_pair.specs.declared.Clock.{Clock}
+use Rattle.lent_pair.specs.Pair.{Side, refusedOn, pairCalled}
+use Rattle.pair_bytes.specs.Report.{KeptBytes, spelledSide, pairReport, pairReported}
 use Rattle.demands.specs.Wires.{numbersOf}
 use Rattle.capture.specs.declared.Answer.{Answer}
 use Rattle.capture.specs.declared.Answer.the-variants.{Record, Refused, End}
@@ -73,6 +76,29 @@ firstOfOtherLink link (call ∷ calls) = ofOtherLink link call
 pub record CallRefuses (e : Seen) (s : State) (frame : List ℕ) (call : Event) : Type 0 where
   pub says : TableSays e frame (timeless (s .control) call) (ofOtherLink (s .link) call) (called e s frame call .number)
   pub keeps : called e s frame call .number ≢ 0 → called e s frame call ≡ refused s frame (called e s frame call .number)
+
+-- the pair of request K5: 1 to 3 for the left panel, then 1 to 3 for the right; then 5 unless both panels are serial
+pub data PairSays (l r : Side) : ℕ → Type 0 where
+  leftBuffers : (n : ℕ) → BuffersSay (l .seen) (l .frame) n → n ≢ 0 → PairSays l r n
+  rightBuffers : (n : ℕ) → BuffersSay (l .seen) (l .frame) 0 → BuffersSay (r .seen) (r .frame) n → n ≢ 0 → PairSays l r n
+  notBothSerial : BuffersSay (l .seen) (l .frame) 0
+      → BuffersSay (r .seen) (r .frame) 0
+      → ((isSerial (l .state .link) ≡ true) × (isSerial (r .state .link) ≡ true) → ⊥)
+      → PairSays l r 5
+  bothGood : BuffersSay (l .seen) (l .frame) 0
+      → BuffersSay (r .seen) (r .frame) 0
+      → isSerial (l .state .link) ≡ true
+      → isSerial (r .state .link) ≡ true
+      → PairSays l r 0
+
+-- one number for both panels, whatever their selects are; a refusal touches neither
+pub record PairRefuses (l r : Side) (clock : Clock) : Type 0 where
+  pub says : PairSays l r (pairCalled l r clock .left .number)
+  pub saysBoth : pairCalled l r clock .right .number ≡ pairCalled l r clock .left .number
+  pub keeps :
+      pairCalled l r clock .left .number ≢ 0
+      → pairCalled l r clock
+      ≡ record { left = refusedOn l (pairCalled l r clock .left .number); right = refusedOn r (pairCalled l r clock .left .number) }
 
 -- drawing afresh takes frame and fonts, on either link
 pub record DrawRefuses (e : Seen) (m : Memories) (c : Control) (frame : List ℕ) : Type 0 where
@@ -183,7 +209,7 @@ abbrev pub NeverFull : Type 0
 NeverFull =
     (e : Seen) (capture : List ℕ) (s : State) (frame : List ℕ) (place : ℕ) → replayed e endless capture s frame place .ending .full ≡ false
 
--- the printed transcript, and the replay that other languages link, are refused as calls too, and leave all that they were lent
+-- the printed transcript, and the replay and the pair that other languages link, are refused as calls too, and leave all that they were lent
 abbrev pub TranscriptRefuses : Type 0
 TranscriptRefuses =
     (e : Seen) (capture : List ℕ) (s : State) (frame : List ℕ) (place : ℕ) (text : List ℕ) (n : ℕ)
@@ -198,8 +224,16 @@ ExportedReplayRefuses =
     → n ≢ 0
     → freshReplay made e capture frame state last ≡ report n frame state last
 
+abbrev pub ExportedPairRefuses : Type 0
+ExportedPairRefuses =
+    (el er : Seen) (l r : KeptBytes) (clock : Clock) (n : ℕ)
+    → PairSays (spelledSide el l) (spelledSide er r) n
+    → n ≢ 0
+    → pairReported el l er r clock ≡ pairReport n l r
+
 pub record Demand1 : Type 0 where
   pub calls : (e : Seen) (s : State) (frame : List ℕ) (call : Event) → CallRefuses e s frame call
+  pub pairs : (l r : Side) (clock : Clock) → PairRefuses l r clock
   pub draws : (e : Seen) (m : Memories) (c : Control) (frame : List ℕ) → DrawRefuses e m c frame
   pub sends : (register : Bool) (byte : ℕ) (buffer : List ℕ) → SendRefuses register byte buffer
   pub captures : (time : Bool) (c : List ℕ) → RecordSays time c (takenWith time (readFirst c)) (number (takenWith time (readFirst c)))
@@ -216,6 +250,8 @@ pub record Demand1 : Type 0 where
   -- and 29 bytes for each record are room enough for all of it
   pub tellsAll : RoomTellsAll
   pub exportedReplays : ExportedReplayRefuses
+  pub exportedPairs : ExportedPairRefuses
   pub oneNumberForCalls : (e : Seen) (frame : List ℕ) (wants other : Bool) → OneNumber (TableSays e frame wants other)
+  pub oneNumberForPairs : (l r : Side) → OneNumber (PairSays l r)
   pub oneNumberForSends : (buffer : List ℕ) → OneNumber (SenderSays buffer)
   pub oneAnswerForRecords : (time : Bool) (c : List ℕ) → OneAnswer (RecordSays time c)

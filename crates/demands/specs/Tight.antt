@@ -20,6 +20,13 @@ use Rattle.calls.specs.Calls.{Called, called, left}
 use Rattle.panel.specs.declared.Panel.{Panel}
 use Rattle.panel.specs.declared.Outcome as panel
 use Rattle.panel.specs.Handed.{stateOf, memoriesOf, handed}
+use Rattle.lent_pair.specs.declared.Clock.{Clock}
+use Rattle.lent_pair.specs.declared.LentPairOutcome.{LentPairOutcome}
+use Rattle.lent_pair.specs.Pair.{side, PairCalled, pairCalled}
+use Rattle.lent_pair.specs.Left.{pairLeft}
+use Rattle.pair.specs.declared.PairOutcome.{PairOutcome}
+use Rattle.pair.specs.Handed.{pairHanded}
+use Rattle.pair_bytes.specs.Report.{KeptBytes, PairReport, pairReport, pairReported}
 use Rattle.capture.specs.declared.Answer.{Answer}
 use Rattle.reader.specs.declared.Reader.{Reader}
 use Rattle.capture.specs.Record.{readFirst, number, takenWith}
@@ -61,6 +68,16 @@ pub record Calling (S : Type 0) : Type 0 where
   pub frame : List ℕ
   pub call : Event
 
+-- what a call of the pair is given: of each side what it is lent for the picture, the state and the frame; and the clock
+pub record Clocking (S : Type 0) : Type 0 where
+  pub leftSeen : Seen
+  pub rightSeen : Seen
+  pub left : S
+  pub right : S
+  pub leftFrame : List ℕ
+  pub rightFrame : List ℕ
+  pub clock : Clock
+
 -- what `draw` is given
 pub record Drawing (S : Type 0) : Type 0 where
   pub seen : Seen
@@ -89,6 +106,27 @@ pub record LeftLent : Type 0 where
   pub answer : lent.LentOutcome
   pub memories : Memories
   pub frame : List ℕ
+
+-- what a call of the pair leaves, by value and on lent memories
+pub record LeftPair : Type 0 where
+  pub outcome : PairOutcome
+  pub leftFrame : List ℕ
+  pub rightFrame : List ℕ
+
+pub record LeftLentPair : Type 0 where
+  pub answer : LentPairOutcome
+  pub leftMemories : Memories
+  pub rightMemories : Memories
+  pub leftFrame : List ℕ
+  pub rightFrame : List ℕ
+
+-- what the exported call of the pair is given
+pub record ExportedClocking : Type 0 where
+  pub leftSeen : Seen
+  pub rightSeen : Seen
+  pub left : KeptBytes
+  pub right : KeptBytes
+  pub clock : Clock
 
 -- a capture and a position in it
 pub record At (C : Type 0) : Type 0 where
@@ -151,6 +189,9 @@ pub data PublicCall : Type 0 where
   draw : PublicCall
   -- the same five on lent memories
   lentCall : PublicCall
+  -- a clock of two panels' wire, by value and on lent memories
+  pairBit : PublicCall
+  lentPairBit : PublicCall
   send : PublicCall
   read : PublicCall
   recordAt : PublicCall
@@ -165,6 +206,7 @@ pub data PublicCall : Type 0 where
   exportedDraw : PublicCall
   exportedSend : PublicCall
   exportedReplay : PublicCall
+  exportedPairBit : PublicCall
   -- the glass as text and as a picture file
   braille : PublicCall
   plain : PublicCall
@@ -195,6 +237,22 @@ contractOf lentCall =
       Left = Called;
       leaves = λ x. left (x .answer) (x .memories) (x .frame);
       means = λ i. called (i .seen) (i .state) (i .frame) (i .call);
+    }
+contractOf pairBit =
+    record {
+      Input = Clocking Panel;
+      Outcome = LeftPair;
+      Left = PairCalled;
+      leaves = λ x. pairHanded (x .outcome) (x .leftFrame) (x .rightFrame);
+      means = λ i. pairCalled (side (i .leftSeen) (stateOf (i .left)) (i .leftFrame)) (side (i .rightSeen) (stateOf (i .right)) (i .rightFrame)) (i .clock);
+    }
+contractOf lentPairBit =
+    record {
+      Input = Clocking State;
+      Outcome = LeftLentPair;
+      Left = PairCalled;
+      leaves = λ x. pairLeft (x .answer) (x .leftMemories) (x .rightMemories) (x .leftFrame) (x .rightFrame);
+      means = λ i. pairCalled (side (i .leftSeen) (i .left) (i .leftFrame)) (side (i .rightSeen) (i .right) (i .rightFrame)) (i .clock);
     }
 contractOf send = sends
 contractOf read = answering readFirst
@@ -243,6 +301,14 @@ contractOf exportedReplay =
       Left = Report;
       leaves = λ x. report (x .number) (x .frame) (x .state) (x .last);
       means = λ i. freshReplay (i .made) (i .seen) (i .capture) (i .frame) (i .state) (i .last);
+    }
+contractOf exportedPairBit =
+    record {
+      Input = ExportedClocking;
+      Outcome = PairReport;
+      Left = PairReport;
+      leaves = λ x. pairReport (x .answer) (x .left) (x .right);
+      means = λ i. pairReported (i .leftSeen) (i .left) (i .rightSeen) (i .right) (i .clock);
     }
 contractOf braille = answering brailleOf.braille
 contractOf plain = answering plainOf.plain

@@ -27,7 +27,7 @@ pub spelled-in-range : {c : Control} {l : Link} {j : Kept} → j ≡ record { co
 spelled-in-range h v = rw h v
 
 -- counts of 0 leave the number alone
-number-alone : (n : ℕ) → n ≡ pairAnswer n 0 0
+pub number-alone : (n : ℕ) → n ≡ pairAnswer n 0 0
 number-alone n = omega arith
 
 module _ (el er : Seen) (l r : KeptBytes) (clock : Clock) {j k : Kept} (hj : j ≡ spelledKept (l .control) (l .link)) (hk : k ≡ spelledKept (r .control) (r .link)) (o : LentPairOutcome) {lm rm : Memories} {lf rf : List ℕ} (is : pairLeft o lm rm lf rf ≡ pairCalled (side el (keptState (l .memories) j) (l .frame)) (side er (keptState (r .memories) k) (r .frame)) clock) where

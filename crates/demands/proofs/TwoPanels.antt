@@ -1,0 +1,183 @@
+-- Two panels on one wire: at each clock that is not refused each panel takes its own event, so that what is proved of one panel's calls
+-- holds of each.
+use Prim.Native.Nat.{ℕ, _<_}
+use mathlib.Core.Bool.{Bool, true, true≢false}
+use mathlib.Core.List.{List, [], _∷_, map}
+use mathlib.Core.Logic.{_≢_}
+use mathlib.Core.Path.{_≡_, refl, sym, ap, subst, _∙_}
+use lib.Dec.{eqb}
+use lib.ListN.{getD}
+use borrow.Author.Tests.{eqb-true, eqb-false, eq-eqb, ne-eqb}
+use Rattle.base.specs.Choice.{if_then_else_}
+use Rattle.base.proofs.Choice.{by-test}
+use Rattle.controller.specs.State.{InRange}
+use Rattle.events.specs.declared.Event.{Event}
+use Rattle.links.specs.declared.Link.{Link}
+use Rattle.links.specs.declared.Link.the-variants.{Parallel, Serial}
+use Rattle.links.specs.Idle.{isSerial}
+use Rattle.picture.specs.Picture.{Seen}
+use Rattle.calls.specs.State.{Valid}
+use Rattle.calls.specs.Calls.{Called, Stands, afterCalls}
+use Rattle.calls.proofs.Kept.{called-valid, still-fits}
+use Rattle.lent_pair.specs.declared.Clock.{Clock}
+use Rattle.lent_pair.specs.Pair.{Side, comesTo, toLeft, toRight, calledOn, refusedOn, pairRefusal, PairCalled, pairCalled}
+use Rattle.lent_pair.proofs.Both.{Ready, BothReady, both-ready, ready-both, takes}
+use Rattle.pair_bytes.specs.Report.{KeptBytes, spelledSide, keptAfter, pairReported}
+use Rattle.state_bytes.specs.LinkPacked.{linkPacked, unpackedLink}
+use Rattle.state_bytes.proofs.PackedUnpacked.{unpacked-packed, unpacked-in-range}
+use Rattle.state_bytes.proofs.LinkRead.{unpacked-link-packed}
+use Rattle.demands.specs.Wires.{answers, sum}
+use Rattle.demands.specs.Demand3.{pictureOf, everNamed}
+use Rattle.demands.specs.TwoPanels.{Which, theLeft, theRight, of, brings, leaves, next, clockAnswers, afterClocks, standing, EndsAsAlone, AnswersAsAlone, CountsAsAlone, NeverTouched, RefusedTouchesNeither, EachPictureStands, EachNamedBytesShown, Sized, BytesKeepThePair, TwoPanels}
+use Rattle.demands.proofs.Sequences.{after-shows}
+use Rattle.demands.proofs.Demand3.{demand-3}
+
+-- a clock that is refused, and one that is not
+refused-clock : (l r : Side) (clock : Clock) → pairRefusal l r ≢ 0 → pairCalled l r clock ≡ record { left = refusedOn l (pairRefusal l r); right = refusedOn r (pairRefusal l r) }
+unfolding pairCalled
+refused-clock l r clock h = rw (ne-eqb _ 0 h)
+
+taken-clock : (l r : Side) (clock : Clock) → pairRefusal l r ≡ 0 → pairCalled l r clock ≡ record { left = calledOn l (toLeft clock); right = calledOn r (toRight clock) }
+unfolding pairCalled
+taken-clock l r clock h = rw (eq-eqb _ 0 h)
+
+-- the next clock finds the sides ready
+still-ready : (x : Side) (select bit : Bool) (k : Called) → Ready x → k ≡ calledOn x (comesTo select bit) → Ready (next x k)
+still-ready x select bit k h is =
+    rw is (record { fits = still-fits (x .seen) (x .state) (x .frame) (comesTo select bit) (h .fits); serial = takes x h select bit .serial })
+
+module _ (l r : Side) (clock : Clock) (h : pairRefusal l r ≡ 0) where
+  pub own : (w : Which) → leaves w (pairCalled l r clock) ≡ calledOn (of w l r) (brings w clock)
+  own theLeft = ap (λ (k : PairCalled). k .left) (taken-clock l r clock h)
+  own theRight = ap (λ (k : PairCalled). k .right) (taken-clock l r clock h)
+
+  pub next-taken : pairRefusal (next l (pairCalled l r clock .left)) (next r (pairCalled l r clock .right)) ≡ 0
+  next-taken =
+      let both = both-ready l r h in
+      ready-both _ _ (record {
+        left = still-ready l (clock .left) (clock .bit) _ (both .left) (own theLeft);
+        right = still-ready r (clock .right) (clock .bit) _ (both .right) (own theRight);
+      })
+
+-- a side's next is the next of that side
+of-next : (w : Which) (l r : Side) (k : PairCalled) → of w (next l (k .left)) (next r (k .right)) ≡ next (of w l r) (leaves w k)
+of-next theLeft l r k = refl
+of-next theRight l r k = refl
+
+abbrev aloneAfter : Side → List Event → Stands
+aloneAfter x events = afterCalls (x .seen) (x .state) (x .frame) events
+
+abbrev aloneAnswers : Side → List Event → List Called
+aloneAnswers x events = answers (x .seen) (x .state) (x .frame) events
+
+ends-as-alone : EndsAsAlone
+unfolding afterClocks afterCalls
+ends-as-alone w l r [] h = refl
+ends-as-alone w l r (clock ∷ clocks) h =
+    ends-as-alone w (next l (pairCalled l r clock .left)) (next r (pairCalled l r clock .right)) clocks (next-taken l r clock h)
+    ∙ ap (λ (x : Side). aloneAfter x (map (brings w) clocks)) (of-next w l r (pairCalled l r clock) ∙ ap (next (of w l r)) (own l r clock h w))
+
+answers-as-alone : AnswersAsAlone
+unfolding clockAnswers answers
+answers-as-alone w l r [] h = refl
+answers-as-alone w l r (clock ∷ clocks) h =
+    ap (λ (ks : List Called). leaves w (pairCalled l r clock) ∷ ks)
+    (answers-as-alone w (next l (pairCalled l r clock .left)) (next r (pairCalled l r clock .right)) clocks (next-taken l r clock h)
+    ∙ ap (λ (x : Side). aloneAnswers x (map (brings w) clocks)) (of-next w l r (pairCalled l r clock)))
+    ∙ ap (λ (k : Called). k ∷ aloneAnswers (next (of w l r) k) (map (brings w) clocks)) (own l r clock h w)
+
+counts-as-alone : CountsAsAlone
+counts-as-alone w l r clocks h = ap (λ (ks : List Called). sum (map (λ k. k .count) ks)) (answers-as-alone w l r clocks h)
+
+never-touched : NeverTouched
+never-touched w l r l′ r′ clocks clocks′ h h′ same own-events =
+    ends-as-alone w l r clocks h
+    ∙ ap (λ (x : Side). aloneAfter x (map (brings w) clocks)) same
+    ∙ ap (aloneAfter (of w l′ r′)) own-events
+    ∙ sym (ends-as-alone w l′ r′ clocks′ h′)
+
+refused-touches-neither : RefusedTouchesNeither
+unfolding afterClocks
+refused-touches-neither w l r [] h = refl
+refused-touches-neither w l r (clock ∷ clocks) h =
+    ap (λ (k : PairCalled). afterClocks w (next l (k .left)) (next r (k .right)) clocks) (refused-clock l r clock h)
+    ∙ refused-touches-neither w l r clocks h
+
+each-picture-stands : EachPictureStands
+each-picture-stands w l r clocks h v is =
+    let x = of w l r in
+    let ends = ends-as-alone w l r clocks h in
+    ap (λ (s : Stands). s .frame) ends
+    ∙ after-shows (x .seen) (x .state) (x .frame) (map (brings w) clocks) v is
+    ∙ ap (λ (s : Stands). pictureOf (x .seen) (s .state)) (sym ends)
+
+of-ready : (w : Which) (l r : Side) → BothReady l r → Ready (of w l r)
+of-ready theLeft l r h = h .left
+of-ready theRight l r h = h .right
+
+each-named-bytes-shown : EachNamedBytesShown
+each-named-bytes-shown w l r clocks i h v lt =
+    let x = of w l r in
+    let events = map (brings w) clocks in
+    subst
+    (λ (s : Stands). getD (s .frame) i 0
+    ≡ (if everNamed (x .seen) (x .state) (x .frame) events i then getD (pictureOf (x .seen) (s .state)) i 0 else getD (x .frame) i 0))
+    (sym (ends-as-alone w l r clocks h))
+    (demand-3 .shown (x .seen) (x .state) (x .frame) events i v (of-ready w l r (both-ready l r h) .fits) lt)
+
+-- a panel kept as bytes is after a call what its bytes spell then: a refusal leaves them
+refused-kept :
+    (e : Seen) (b : KeptBytes) (n : ℕ)
+    → n ≢ 0
+    → spelledSide e (keptAfter b (refusedOn (spelledSide e b) n)) ≡ next (spelledSide e b) (refusedOn (spelledSide e b) n)
+refused-kept e b n h = rw (ne-eqb n 0 h)
+
+serial-read : (l : Link) → isSerial l ≡ true → unpackedLink (linkPacked l) ≡ l
+serial-read (Parallel pairing) h = absurd (true≢false (sym h))
+serial-read (Serial receiver) h = unpacked-link-packed (Serial receiver) tt
+
+-- else the controls are in range and the link is serial, so that both are read back from their bytes
+read-back :
+    (e : Seen) (b : KeptBytes) (k : Called)
+    → k .number ≡ 0
+    → InRange (k .state .control)
+    → isSerial (k .state .link) ≡ true
+    → spelledSide e (keptAfter b k) ≡ next (spelledSide e b) k
+read-back e b k z c l = rw (eq-eqb _ 0 z, unpacked-packed (k .state .control) c, serial-read (k .state .link) l)
+
+taken-kept :
+    (e : Seen) (b : KeptBytes) (select bit : Bool)
+    → Sized (b .memories)
+    → Ready (spelledSide e b)
+    → let k = calledOn (spelledSide e b) (comesTo select bit) in
+    spelledSide e (keptAfter b k) ≡ next (spelledSide e b) k
+taken-kept e b select bit m h =
+    let x = spelledSide e b in
+    let valid : Valid (x .state) = record { control = unpacked-in-range (b .control); text = m .text; glyph = m .glyph; graphic = m .graphic } in
+    let took = takes x h select bit in
+    read-back e b (calledOn x (comesTo select bit)) (took .number) (called-valid e (x .state) (x .frame) (comesTo select bit) valid .control) (took .serial)
+
+bytes-keep-the-pair : BytesKeepThePair
+unfolding pairReported
+bytes-keep-the-pair el er l r clock ml mr =
+    let left = spelledSide el l in
+    let right = spelledSide er r in
+    by-test (eqb (pairRefusal left right) 0)
+    (λ t. let both = both-ready left right (eqb-true _ 0 t) in
+    rw (taken-clock left right clock (eqb-true _ 0 t))
+    (taken-kept el l (clock .left) (clock .bit) ml (both .left), taken-kept er r (clock .right) (clock .bit) mr (both .right)))
+    (λ t. let h = eqb-false _ 0 t in
+    rw (refused-clock left right clock h) (refused-kept el l _ h, refused-kept er r _ h))
+
+pub two-panels : TwoPanels
+two-panels =
+    record {
+      ends = ends-as-alone;
+      answer = answers-as-alone;
+      counts = counts-as-alone;
+      apart = never-touched;
+      refused = refused-touches-neither;
+      stands = each-picture-stands;
+      shown = each-named-bytes-shown;
+      bytes = bytes-keep-the-pair;
+    }
