@@ -1,32 +1,27 @@
 -- The readings for every address, call by call: an address set leaves the place that it names, and the rest is computed.
 use Prim.Native.Nat.{ℕ, _+_, _*_, _%_, _<_}
 use mathlib.Core.Bool.{Bool, true, false, true≢false}
-use mathlib.Core.List.{List, [], _∷_, _++_, map}
+use mathlib.Core.List.{List, [], _∷_, _++_}
 use mathlib.Core.Path.{_≡_, refl, ap, sym, subst, _∙_}
 use native.Mathlib.Omega.{arith}
 use lib.ListN.{length, getD, set, length-set}
 use lib.Seq.{getD-set-same, getD-set-other}
 use Rattle.table.specs.declared.Target.{Target}
 use Rattle.table.specs.declared.Target.the-variants.{Text, Glyph, Graphic}
-use Rattle.table.specs.declared.Modes.{Modes}
-use Rattle.table.specs.declared.Instruction.{Instruction}
 use Rattle.table.specs.declared.Instruction.the-variants.{GlyphAddress, TextAddress, GraphicAddress}
 use Rattle.table.specs.Table.{said}
 use Rattle.controller.specs.declared.Time.{Time}
-use Rattle.controller.specs.declared.Control.{Control}
 use Rattle.controller.specs.declared.Place.{Place}
 use Rattle.controller.specs.declared.Entry.{Entry}
 use Rattle.controller.specs.declared.Shown.{Shown}
 use Rattle.controller.specs.declared.View.{View}
 use Rattle.controller.specs.declared.Waiting.{Waiting}
-use Rattle.controller.specs.declared.Waiting.the-variants.{Nothing, Row}
+use Rattle.controller.specs.declared.Waiting.the-variants.{Nothing}
 use Rattle.controller.specs.Memories.{Memories}
 use Rattle.controller.specs.Instructions.{pointed, stepped, withWaiting, obeyed}
 use Rattle.controller.specs.Data.{stored, found, moved, movedOn}
 use Rattle.deeds.specs.Transfers.{executed, written, readOut, statusRead, carriedOut, onTime, performed}
 use Rattle.events.specs.declared.Event.{Event}
-use Rattle.events.specs.declared.Event.the-variants.{Transfer}
-use Rattle.events.specs.declared.Transfer.the-variants.{Instruct, Write}
 use Rattle.links.specs.declared.Link.{Link}
 use Rattle.links.specs.declared.Link.the-variants.{Parallel, Serial}
 use Rattle.links.specs.declared.Pairing.{Pairing}
@@ -37,7 +32,7 @@ use Rattle.calls.specs.Calls.{Fits, called}
 use Rattle.demands.specs.Wires.{answers, repliesOf, noTime}
 use Rattle.calls.proofs.Kept.{still-fits}
 use Rattle.links.specs.Idle.{isSerial}
-use Rattle.demands.specs.Readings.{instruct, writeData, readStatus, readData}
+use Rattle.demands.specs.Readings.{writeData, readStatus, readData}
 use Rattle.demands.specs.ReadBack.{toText, toGlyph, toGraphic, thereAndBack, bothRead, TakesBytes, ReadBack}
 use Rattle.demands.proofs.Addresses.{says-text, says-glyph, says-graphic}
 use Rattle.demands.proofs.Readings.{Told, tells, call-told}

@@ -1,30 +1,27 @@
 -- A replay is the calls of its accepted records, one after another.
 use Prim.Native.Nat.{ℕ, suc, _+_, _-_, _^_, _≤_, _<_}
-use mathlib.Core.Bool.{Bool, true, false, not, _&&_, true≢false}
+use mathlib.Core.Bool.{Bool, true, false, not, true≢false}
 use mathlib.Core.List.{List, [], _∷_, _++_, map, flatten}
 use mathlib.Core.Logic.{_≢_}
 use mathlib.Core.Path.{_≡_, refl, sym, ap, _∙_}
 use native.Mathlib.Omega.{arith}
 use lib.ListN.{length, take, replicate, length-append}
-use lib.Dec.{eqb, leb, ltb}
+use lib.Dec.{eqb, leb}
 use borrow.Author.Tests.{eqb-true, eqb-false, eq-eqb, not-true, not-false, leb-false, ltb-false}
 use Rattle.base.specs.Choice.{if_then_else_}
 use Rattle.base.proofs.Choice.{by-test, either-told}
 use Rattle.controller.specs.declared.Control.{Control}
 use Rattle.links.specs.declared.Link.{Link}
-use Rattle.links.specs.declared.Link.the-variants.{Parallel, Serial}
 use Rattle.events.specs.declared.Event.{Event}
 use Rattle.events.specs.declared.Event.the-variants.{Bit}
-use Rattle.links.specs.Taken.{takenBy}
 use Rattle.sender.specs.Sender.{highestFirst}
 use Rattle.picture.specs.Picture.{Seen}
 use Rattle.picture.specs.Refusals.{refusalOf}
-use Rattle.calls.specs.State.{State, freshState}
-use Rattle.calls.specs.Calls.{Called, unlessOther, timeless, Fits, called, Stands, afterCalls}
+use Rattle.calls.specs.State.{State}
+use Rattle.calls.specs.Calls.{Called, timeless, Fits, called, Stands, afterCalls}
 use Rattle.calls.proofs.Kept.{still-fits}
-use Rattle.demands.proofs.Timely.{admitted-timely}
 use Rattle.demands.specs.Wires.{answers, numbersOf}
-use Rattle.printed.specs.Text.{RecordAnswer, recordAnswer, line, lines, longestLine, hasRoom}
+use Rattle.printed.specs.Text.{RecordAnswer, line, lines, longestLine, hasRoom}
 use Rattle.demands.proofs.Sequences.{after-append, numbers-append, zeros-append}
 use Rattle.capture.specs.Kinds.{Kind, lastKind, kindOf}
 use Rattle.capture.specs.Record.{number}
@@ -39,6 +36,7 @@ use Rattle.records.proofs.Refused.{one-or-bits, called-on-accepted, record-time
 use Rattle.playback.proofs.Parts.{contentsReplayed, replayed-place}
 use Rattle.demands.specs.Captures.{callsOf, callsOfAll, lastReply, sumOfCounts, answerOf, answersOf}
 use Rattle.links.specs.Idle.{isSerial}
+use Rattle.calls.proofs.Serial.{bit-silent}
 use Rattle.demands.specs.Demand1.{TableSays, ofOtherLink, firstOfOtherLink, NoRoom, lineTooLong, uncounted, StopsAt, behindAll, atRecord, noRoom, ReplayStops, TranscriptRefuses, TranscriptTells, ExportedReplayRefuses}
 use Rattle.demands.proofs.Tables.{orWants, table-number, KindsIn, contents-in}
 use Rattle.demands.proofs.Calls.{call-number}
@@ -135,20 +133,7 @@ module _ (e : Seen) (s : State) (frame : List ℕ) (fits : Fits e frame) where
       (λ t. rw t (first-number (callsOf r) w))
 
 -- bits leave a serial link serial, so that they are all accepted where the first is
-still-serial-taken :
-    (e : Seen) (s : State) (frame : List ℕ) (dl : Bool) (l : Link) (b : Bool)
-    → isSerial l ≡ true
-    → isSerial (unlessOther e s frame (takenBy dl l (Bit b)) .state .link) ≡ true
-unfolding takenBy
-still-serial-taken e s frame dl (Parallel pairing) b h = absurd (true≢false (sym h))
-still-serial-taken e s frame dl (Serial receiver) b h = refl
-
 module _ (e : Seen) where
-  still-serial :
-      (s : State) (frame : List ℕ) (b : Bool) → Fits e frame → isSerial (s .link) ≡ true → isSerial (called e s frame (Bit b) .state .link) ≡ true
-  still-serial s frame b fits h =
-      rw (admitted-timely e s frame (Bit b) fits refl) (still-serial-taken e s frame _ (s .link) b h)
-
   abbrev AllAccepted : State → List ℕ → List Event → Type 0
   AllAccepted s frame calls = numbersOf e s frame calls ≡ replicate (length calls) 0
 
@@ -158,7 +143,7 @@ module _ (e : Seen) where
   bits-accepted (b ∷ bs) s frame fits h =
       let first = fitting-number e s frame fits (Bit b) refl ∙ ap (λ (x : Bool). if x then 5 else 0) (ap not h) in
       ap (λ (ns : List ℕ). called e s frame (Bit b) .number ∷ ns)
-      (bits-accepted bs (called e s frame (Bit b) .state) (called e s frame (Bit b) .frame) (still-fits e s frame (Bit b) fits) (still-serial s frame b fits h))
+      (bits-accepted bs (called e s frame (Bit b) .state) (called e s frame (Bit b) .frame) (still-fits e s frame (Bit b) fits) (bit-silent e s frame b fits h .serial))
       ∙ ap (λ (m : ℕ). m ∷ replicate (length (map Bit bs)) 0) first
 
   -- the calls of an accepted record are all accepted

@@ -9,58 +9,45 @@ use Rattle.base.specs.Bits.{bits7-4}
 use Rattle.base.proofs.Choice.{either}
 use Rattle.controller.specs.declared.Control.{Control}
 use Rattle.controller.specs.Memories.{Memories}
-use Rattle.time.specs.Time.{lost}
-use Rattle.deeds.specs.Transfers.{Acted, executed, written, carriedOut, onTime, performed}
+use Rattle.deeds.specs.Transfers.{performed}
 use Rattle.events.specs.declared.Event.{Event}
 use Rattle.events.specs.declared.Event.the-variants.{Transfer, Bit, SelectLow, Reset, Pass}
 use Rattle.events.specs.declared.Transfer.the-variants.{Instruct, Write, Status, Read}
-use Rattle.events.specs.declared.Deed.the-variants.{Whole}
 use Rattle.links.specs.declared.Link.{Link}
 use Rattle.links.specs.declared.Link.the-variants.{Parallel, Serial}
 use Rattle.links.specs.declared.Pairing.{Pairing}
 use Rattle.links.specs.declared.Pairing.the-variants.{Empty, Upper, Lower}
-use Rattle.serial.specs.declared.Received.{Received}
-use Rattle.serial.specs.declared.Received.the-variants as received
 use Rattle.links.specs.declared.Carried.{Carried}
 use Rattle.links.specs.declared.Taken.{Taken}
 use Rattle.links.specs.declared.Taken.the-variants.{OtherLink, Carries}
 use Rattle.links.specs.Halves as halves
 use Rattle.serial.specs.Serial.{heard}
-use Rattle.links.specs.Taken.{byWidth, deedOf, takenBy, replied}
+use Rattle.links.specs.Taken.{byWidth, takenBy, replied}
 use Rattle.picture.specs.Picture.{Seen}
 use Rattle.picture.specs.Refusals.{refusalOf}
 use Rattle.calls.specs.State.{State}
 use Rattle.calls.specs.Calls.{Called, unlessOther, takenOn, timeless, called}
+use Rattle.calls.proofs.Serial.{write-reply, received-reply}
 use Rattle.demands.specs.Demand2.{isRead, RepliesToReads}
 
 module _ (m : Memories) (c : Control) where
   abbrev replyOf : Carried → ℕ
   replyOf x = replied (x .rest) (performed m c (x .deed) .done .reply) .reply
 
-  write-reply : (register : Bool) (byte : ℕ) → performed m c (Whole (halves.writing register byte)) .done .reply ≡ 0
-  unfolding performed onTime carriedOut executed written
-  write-reply false byte = either (λ (a : Acted). a .done .reply ≡ 0) (lost c (Instruct byte)) refl refl
-  write-reply true byte = either (λ (a : Acted). a .done .reply ≡ 0) (lost c (Write byte)) refl refl
-
   half-reply : (pairing : Pairing) (register : Bool) (value : ℕ) → replyOf (halves.writeHalf pairing register value) ≡ 0
   unfolding halves.writeHalf performed
   half-reply Empty register value = refl
   half-reply (Upper was upper) register value =
       either (λ (x : Carried). replyOf x ≡ 0) (Bool·beq was register)
-      (ap halves.firstReply (write-reply register (halves.joined upper (bits7-4 value))))
+      (ap halves.firstReply (write-reply m c register (halves.joined upper (bits7-4 value))))
       refl
   half-reply (Lower was lower) register value = refl
 
   transfer-reply : (dl : Bool) (pairing : Pairing) (register : Bool) (byte : ℕ) → replyOf (byWidth dl pairing (halves.writing register byte)) ≡ 0
   unfolding byWidth halves.paired
-  transfer-reply true pairing register byte = write-reply register byte
+  transfer-reply true pairing register byte = write-reply m c register byte
   transfer-reply false pairing false byte = half-reply pairing false byte
   transfer-reply false pairing true byte = half-reply pairing true byte
-
-  received-reply : (r : Received) → performed m c (deedOf r) .done .reply ≡ 0
-  unfolding performed
-  received-reply received.Nothing = refl
-  received-reply (received.Byte register byte) = write-reply register byte
 
   abbrev takenReply : Taken → ℕ
   takenReply OtherLink = 0
@@ -75,7 +62,7 @@ module _ (m : Memories) (c : Control) where
   taken-reply dl l (Transfer Status) h = absurd (true≢false h)
   taken-reply dl l (Transfer Read) h = absurd (true≢false h)
   taken-reply dl (Parallel pairing) (Bit b) h = refl
-  taken-reply dl (Serial receiver) (Bit b) h = received-reply (heard receiver b .received)
+  taken-reply dl (Serial receiver) (Bit b) h = received-reply m c (heard receiver b .received)
   taken-reply dl (Parallel pairing) SelectLow h = refl
   taken-reply dl (Serial receiver) SelectLow h = refl
   taken-reply dl l (Reset pin) h = refl

@@ -1,6 +1,6 @@
 -- Two panels on one wire: at each clock that is not refused each panel takes its own event, so that what is proved of one panel's calls
 -- holds of each.
-use Prim.Native.Nat.{ℕ, _<_}
+use Prim.Native.Nat.{ℕ}
 use mathlib.Core.Bool.{Bool, true, true≢false}
 use mathlib.Core.List.{List, [], _∷_, map}
 use mathlib.Core.Logic.{_≢_}
@@ -28,7 +28,7 @@ use Rattle.state_bytes.proofs.PackedUnpacked.{unpacked-packed, unpacked-in-rang
 use Rattle.state_bytes.proofs.LinkRead.{unpacked-link-packed}
 use Rattle.demands.specs.Wires.{answers, sum}
 use Rattle.demands.specs.Demand3.{pictureOf, everNamed}
-use Rattle.demands.specs.TwoPanels.{Which, theLeft, theRight, of, brings, leaves, next, clockAnswers, afterClocks, standing, EndsAsAlone, AnswersAsAlone, CountsAsAlone, NeverTouched, RefusedTouchesNeither, EachPictureStands, EachNamedBytesShown, Sized, BytesKeepThePair, TwoPanels}
+use Rattle.demands.specs.TwoPanels.{Which, theLeft, theRight, of, brings, leaves, next, clockAnswers, afterClocks, EndsAsAlone, AnswersAsAlone, CountsAsAlone, NeverTouched, RefusedTouchesNeither, EachPictureStands, EachNamedBytesShown, Sized, BytesKeepThePair, TwoPanels}
 use Rattle.demands.proofs.Sequences.{after-shows}
 use Rattle.demands.proofs.Demand3.{demand-3}
 

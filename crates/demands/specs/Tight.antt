@@ -28,9 +28,7 @@ use Rattle.pair.specs.declared.PairOutcome.{PairOutcome}
 use Rattle.pair.specs.Handed.{pairHanded}
 use Rattle.pair_bytes.specs.Report.{KeptBytes, PairReport, pairReport, pairReported}
 use Rattle.capture.specs.declared.Answer.{Answer}
-use Rattle.reader.specs.declared.Reader.{Reader}
 use Rattle.capture.specs.Record.{readFirst, number, takenWith}
-use Rattle.reader.specs.declared.Step.{Step}
 use Rattle.reader.specs.Capture.{stepAt}
 use Rattle.reader.specs.Reader as reader
 use Rattle.playback.specs.declared.Stop.{Stop}

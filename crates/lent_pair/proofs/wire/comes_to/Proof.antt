@@ -1,4 +1,3 @@
-use borrow.Author.Needs.{needs}
 use Rattle.lent_pair.proofs.wire.comes_to.Statement.{statement}
 use Rattle.lent_pair.proofs.wire.comes_to.Tie as tie
 
