@@ -9,7 +9,6 @@ use saying::failed;
 
 mod asked;
 mod files;
-mod font;
 mod replaying;
 mod saying;
 
@@ -73,7 +72,7 @@ fn picture(asked: Asked, frame: &[u8; 1024], ended: Ended) {
 // Shows the capture that a descriptor gives; `file` is its name in messages.
 fn show(asked: Asked, fd: i32, file: &[u8]) {
     let files = asked.files;
-    let mut half = font::built_in();
+    let mut half = half_font::built_in();
     let halves = files::half_font(files.half, &mut half);
     if !halves.well {
         return;

@@ -189,7 +189,7 @@ fn row_dots(drawing: &[u8; 8580], n: usize, row: usize) -> u8
 }
 
 // 2,048 bytes, row y of code c at 16c + y, and one more: room to find a file too long. A drawing begins at row 2 of its glyph.
-pub(crate) fn built_in() -> [u8; 2049]
+pub fn built_in() -> [u8; 2049]
     ensures { λ r. ⌜ 2049 ≡ length r ⌝ }
 {
     let drawing = drawing();

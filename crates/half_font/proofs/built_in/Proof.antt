@@ -3,8 +3,8 @@ use Prim.Native.Nat.{_-_}
 use lib.ListN.{length}
 use mathlib.Core.Path.{_≡_, refl, sym}
 use borrow.Author.Needs.{needs}
-use Rattle.show.proofs.font.built_in.Statement.{statement}
-use Rattle.show.proofs.font.built_in.Tie as tie
+use Rattle.half_font.proofs.built_in.Statement.{statement}
+use Rattle.half_font.proofs.built_in.Tie as tie
 
 abbrev Inv-loop : tie.InvT-loop
 Inv-loop drawing half₀ i₀ half i = length half ≡ 2049
