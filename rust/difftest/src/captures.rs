@@ -30,7 +30,7 @@ pub fn whole(time: bool, mut random: Random) -> (Case, From) {
 }
 
 /// Most captures begin with the display on, and many with the modes that show most.
-fn begin(wire: &mut Wire) {
+pub fn begin(wire: &mut Wire) {
     if wire.link != Link::Serial && wire.random.once_in(3) {
         wire.other_width();
     }
@@ -88,6 +88,12 @@ pub fn refused(time: bool, random: Random) -> (Case, From) {
     let mut own = random.clone();
     let (mut case, _) = whole(time, random);
     case.capture.truncate(4 * 16);
+    wrong_lengths(&mut case, &mut own);
+    (case, From(0))
+}
+
+/// One or more of the buffers get a length that is refused.
+pub fn wrong_lengths(case: &mut Case, own: &mut Random) {
     let wrong = 1 + own.below(7);
     if wrong & 1 != 0 {
         let length = own.pick(&[
@@ -125,7 +131,6 @@ pub fn refused(time: bool, random: Random) -> (Case, From) {
         ]);
         case.full = own.bytes(length);
     }
-    (case, From(0))
 }
 
 /// A long capture for the program `replay`, now and then damaged. It begins parallel with the old numbering, and changes over by resets.

@@ -8,7 +8,7 @@ pub const NUMBERINGS: [Numbering; 2] = [Numbering::Old, Numbering::New];
 /// Where the last glyph of the old numbering ends; that of the new one ends with the longest font.
 pub const OLD_END: usize = 267_264;
 
-#[derive(Clone)]
+#[derive(Clone, PartialEq)]
 pub struct Case {
     pub parallel: bool,
     pub time: bool,

@@ -25,12 +25,18 @@ pub struct Tally {
     pub in_time: u64,
     /// Records that were replayed on the way to those, and not compared one by one.
     pub passed: u64,
-    /// Captures that stopped before their end.
+    /// Captures that stopped before their end, and clocks of a pair that were refused.
     pub stops: u64,
     /// Whole draws compared.
     pub draws: u64,
     /// Lines of the program `replay` compared.
     pub lines: u64,
+    /// Clocks of a pair, refused ones among them, after which number, counts, states and frames were compared.
+    pub bits: u64,
+    /// Those that completed a transfer which the left panel alone carried out, the right alone, or both.
+    pub on_left: u64,
+    pub on_right: u64,
+    pub on_both: u64,
 }
 
 /// The model's view after some records.

@@ -19,7 +19,7 @@ fn cases(
 }
 
 /// How much each group compares: the cases are the same every time, so a group that compares less, or nothing, has lost some.
-const PINNED: [(&str, &str); 16] = [
+const PINNED: [(&str, &str); 18] = [
     (
         "captures",
         "136986 records, 69895 of them by the new numbering, 140743 whole draws",
@@ -66,6 +66,16 @@ const PINNED: [(&str, &str); 16] = [
          29328 transfers carried out in time, 29328 lost",
     ),
     ("printed lines with time", "58664 printed lines"),
+    (
+        "pairs",
+        "453736 bits, 12002 refusals, 975 whole draws, \
+         5728 transfers on the left panel, 5775 on the right, 3518 on both, \
+         4378 transfers carried out in time, 2654 lost",
+    ),
+    (
+        "pairs of any bytes",
+        "250678 bits, 44851 refusals, 40000 whole draws",
+    ),
     ("sender", "4096 calls"),
 ];
 
@@ -74,7 +84,7 @@ fn group(name: &str, compared: Result<String, String>) -> bool {
     let pinned = PINNED.iter().find(|(group, _)| *group == name);
     let wrong = match (&compared, pinned) {
         (Err(what), _) => what.clone(),
-        (Ok(_), None) => "what it compares is not pinned".to_string(),
+        (Ok(told), None) => format!("{told} compared, and nothing is pinned"),
         (Ok(told), Some((_, much))) if told != much => {
             format!("{told} compared, and pinned are {much}")
         }
@@ -90,6 +100,7 @@ fn group(name: &str, compared: Result<String, String>) -> bool {
 /// What was compared, without what was not.
 pub fn told(tally: &Tally) -> String {
     let counts = [
+        (tally.bits, "bits"),
         (tally.records, "records"),
         (tally.by_new, "of them by the new numbering"),
         (tally.stops, "refusals"),
@@ -101,6 +112,13 @@ pub fn told(tally: &Tally) -> String {
         .filter(|(count, _)| *count > 0)
         .map(|(count, what)| format!("{count} {what}"))
         .collect();
+    let on_panels = [tally.on_left, tally.on_right, tally.on_both];
+    if on_panels != [0; 3] {
+        let [left, right, both] = on_panels;
+        parts.push(format!(
+            "{left} transfers on the left panel, {right} on the right, {both} on both"
+        ));
+    }
     // A run with time that loses none is to be seen.
     if tally.in_time + tally.lost > 0 {
         let (in_time, lost) = (tally.in_time, tally.lost);
@@ -154,6 +172,10 @@ pub fn run() -> bool {
         "every length of the full font, drawn",
         whole(draws::every_length),
     );
+    let pair = |number: u64, tally: &mut Tally| groups::pair(SEED, number, tally);
+    passed &= group("pairs", cases(1_000, pair));
+    let any_bytes = |number: u64, tally: &mut Tally| groups::any_bytes(SEED, number, tally);
+    passed &= group("pairs of any bytes", cases(20_000, any_bytes));
     let calls = sender::compare(&mut Random::new(SEED, 0)).map(|calls| format!("{calls} calls"));
     passed & group("sender", calls)
 }

@@ -2,9 +2,10 @@
 use crate::case::Case;
 use crate::compare::{self, From, Tally};
 use crate::minimise::minimise;
+use crate::pairs::Pair;
 use crate::random::Random;
 use crate::report::report;
-use crate::{captures, draws, modes, printed};
+use crate::{captures, draws, modes, pairs, printed};
 
 /// A way to make a case of a number, for a panel without time or with it.
 type Make = fn(bool, Random) -> (Case, From);
@@ -80,5 +81,24 @@ pub fn made_up(seed: u64, number: u64, tally: &mut Tally) -> Result<(), String> 
     let different = draws::made_up(&mut Random::new(seed, number), tally);
     different.map_or(Ok(()), |what| {
         Err(format!("seed {seed}, state {number}: {what}"))
+    })
+}
+
+/// A pair, compared clock by clock; one that differs is made small.
+pub fn pair(seed: u64, number: u64, tally: &mut Tally) -> Result<(), String> {
+    let pair = pairs::pair(Random::new(seed, number));
+    let Some(what) = pairs::compare(&pair, tally) else {
+        return Ok(());
+    };
+    let mut differs = |pair: &Pair| pairs::compare(pair, &mut Tally::default());
+    let (small, what) = pairs::minimise(&pair, what, &mut differs);
+    let name = file_name(seed, "pairs", number);
+    Err(pairs::report(&name, &small, &what))
+}
+
+pub fn any_bytes(seed: u64, number: u64, tally: &mut Tally) -> Result<(), String> {
+    let wrong = pairs::any_bytes(&mut Random::new(seed, number), tally);
+    wrong.map_or(Ok(()), |what| {
+        Err(format!("seed {seed}, pair {number}: {what}"))
     })
 }

@@ -1,7 +1,5 @@
 //! Names for the places of a state and a frame, for messages.
-use proved::{CONTROL, CONTROL_AT};
-
-const LINK_AT: usize = CONTROL_AT + CONTROL;
+use proved::{CONTROL, CONTROL_AT, LINK_AT};
 
 const CONTROLS: [&str; CONTROL] = [
     "target",

@@ -16,9 +16,40 @@ pub fn report(name: &str, case: &Case, what: &str) -> String {
         capture.extend([0xA5, 0x5A, RESET, value]);
     }
     capture.extend(&case.capture);
-    let path = PathBuf::from(FOLDER).join(format!("{name}.capture"));
-    let message = format!(
-        "{what}\n  {} records; frame of {} bytes, half font of {}, full font of {}, phase {}, begun {} with the {} numbering{}{}\n",
+    let reset = if as_replay {
+        ""
+    } else {
+        " (the capture has a reset before it)"
+    };
+    let message = format!("{what}\n  {}{reset}\n", surroundings(case));
+    let written = write(name, "txt", message.as_bytes());
+    let kept = match written.and_then(|_| write(name, "capture", &capture)) {
+        Ok(path) => format!(
+            "  ./run {1}{0} and difftest file {0} replay it",
+            path.display(),
+            if case.time { "--time " } else { "" },
+        ),
+        Err(why) => why,
+    };
+    message + &kept
+}
+
+/// Writes a file of a difference, whose name it has; answers where it is, or why it is not.
+pub fn write(name: &str, extension: &str, bytes: &[u8]) -> Result<PathBuf, String> {
+    let path = PathBuf::from(FOLDER).join(format!("{name}.{extension}"));
+    match std::fs::create_dir_all(FOLDER).and_then(|_| std::fs::write(&path, bytes)) {
+        Ok(()) => Ok(path),
+        Err(error) => Err(format!(
+            "  it could not be written: {}: {error}",
+            path.display()
+        )),
+    }
+}
+
+/// What a panel is made with, and what it is lent.
+pub fn surroundings(case: &Case) -> String {
+    format!(
+        "{} records; frame of {} bytes, half font of {}, full font of {}, phase {}, begun {} with the {} numbering{}",
         case.records(),
         describe(&case.frame),
         describe(&case.half),
@@ -29,21 +60,8 @@ pub fn report(name: &str, case: &Case, what: &str) -> String {
             Numbering::Old => "old",
             Numbering::New => "new",
         },
-        if as_replay { "" } else { " (the capture has a reset before it)" },
         if case.time { ", with time" } else { "" },
-    );
-    let written = std::fs::create_dir_all(FOLDER)
-        .and_then(|_| std::fs::write(&path, &capture))
-        .and_then(|_| std::fs::write(path.with_extension("txt"), &message));
-    let kept = match written {
-        Ok(()) => format!(
-            "  ./run {1}{0} and difftest file {0} replay it",
-            path.display(),
-            if case.time { "--time " } else { "" },
-        ),
-        Err(error) => format!("  it could not be written: {}: {error}", path.display()),
-    };
-    message + &kept
+    )
 }
 
 fn describe(bytes: &[u8]) -> String {

@@ -234,7 +234,7 @@ fn any_data(wire: &mut Wire) {
 /// What a capture has rarely: another link, or everything anew.
 fn now_and_then(wire: &mut Wire) {
     match wire.random.below(12) {
-        0..=1 => {
+        0..=1 if !wire.shared => {
             let (parallel, numbering) = (wire.random.flag(), wire.random.pick(&NUMBERINGS));
             wire.reset(parallel, numbering);
             // Most often on, so that what comes next is seen.

@@ -1,77 +1,73 @@
-//! The soak: cases without end, until so many records were compared without time and as many with it, or so many seconds have passed. Sixteen
-//! cases without time and sixteen with it come in turn.
-use crate::compare::Tally;
-use crate::gate::told;
-use crate::groups;
+//! The soaks: cases without end, until so much was compared or so many seconds have passed.
+mod pairs;
+mod records;
+
+pub use pairs::Pairs;
+pub use records::Records;
+
 use std::time::{Duration, Instant};
 
 #[derive(Clone, Copy)]
 pub enum Until {
-    Records(u64),
+    Compared(u64),
     Seconds(u64),
 }
 
 const SHOWN_EVERY: Duration = Duration::from_secs(5);
 
-/// Once in so many cases the program `replay` is run, and once in so many a state is made up and drawn.
-const LINES_EVERY: u64 = 2_048;
-const DRAWN_EVERY: u64 = 8;
+/// What is soaked, with what was compared so far.
+pub trait Soaked {
+    const NAME: &'static str;
 
-/// What was compared without time, and what with it, is counted apart.
-fn case(seed: u64, number: u64, tallies: &mut [Tally; 2]) -> Result<(), String> {
-    if number.is_multiple_of(LINES_EVERY) {
-        let time = (number / LINES_EVERY) % 2 == 1;
-        groups::lines(time, seed, number, 4_000, &mut tallies[usize::from(time)])?;
-    }
-    let time = (number / 16) % 2 == 1;
-    let tally = &mut tallies[usize::from(time)];
-    if number.is_multiple_of(DRAWN_EVERY) {
-        groups::made_up(seed, number, tally)?;
-    }
-    let mut turn = number % 16;
-    for (name, make, share) in groups::RANDOM {
-        if turn < share {
-            return groups::random(name, make, time, seed, number, tally);
-        }
-        turn -= share;
-    }
-    Ok(())
+    /// Compares the case of a number.
+    fn case(&mut self, seed: u64, number: u64) -> Result<(), String>;
+
+    /// How much there is so far of what a soak goes on for.
+    fn compared(&self) -> u64;
+
+    /// What is shown on the way: how much was compared, in words, and as the number that a speed is told of.
+    fn shown(&self) -> (String, u64);
+
+    /// What is told at the end, a line each.
+    fn told(&self) -> Vec<String>;
 }
 
-pub fn run(until: Until, seed: u64) -> bool {
+fn enough(soaked: &impl Soaked, until: Until, start: Instant) -> bool {
+    match until {
+        Until::Compared(many) => soaked.compared() >= many,
+        Until::Seconds(seconds) => start.elapsed().as_secs() >= seconds,
+    }
+}
+
+fn show(soaked: &impl Soaked, start: Instant) {
+    let seconds = start.elapsed().as_secs_f64();
+    let (words, many) = soaked.shown();
+    let speed = many as f64 / seconds;
+    eprintln!("{seconds:.0} s: {words}, {speed:.0} a second");
+}
+
+pub fn run<S: Soaked>(mut soaked: S, until: Until, seed: u64) -> bool {
+    let name = S::NAME;
     let start = Instant::now();
     let mut shown = start;
-    let mut tallies = [Tally::default(), Tally::default()];
-    let done = |tallies: &[Tally; 2]| match until {
-        Until::Records(records) => tallies.iter().all(|tally| tally.records >= records),
-        Until::Seconds(seconds) => start.elapsed().as_secs() >= seconds,
-    };
     let mut number = 0;
-    while !done(&tallies) {
-        if let Err(what) = case(seed, number, &mut tallies) {
+    while !enough(&soaked, until, start) {
+        if let Err(what) = soaked.case(seed, number) {
             println!(
-                "FAILED difftest: soak, seed {seed}, case {number}, after {number} cases: {what}"
+                "FAILED difftest: {name}, seed {seed}, case {number}, after {number} cases: {what}"
             );
             return false;
         }
         number += 1;
         if shown.elapsed() >= SHOWN_EVERY {
             shown = Instant::now();
-            let seconds = start.elapsed().as_secs_f64();
-            let [without, with] = [tallies[0].records, tallies[1].records];
-            let speed = (without + with) as f64 / seconds;
-            eprintln!("{seconds:.0} s: {without} records compared without time, {with} with it, {speed:.0} a second");
+            show(&soaked, start);
         }
     }
-    for (tally, mode) in tallies.iter().zip(["without time", "with time"]) {
-        println!(
-            "ok difftest: soak, seed {seed}, {mode}: {} compared; {} more records replayed on the way; records of kinds 0 to 7: {:?}",
-            told(tally),
-            tally.passed,
-            tally.kinds
-        );
+    for line in soaked.told() {
+        println!("ok difftest: {name}, seed {seed}{line}");
     }
     let seconds = start.elapsed().as_secs_f64();
-    println!("ok difftest: soak, seed {seed}: {number} cases in {seconds:.0} s");
+    println!("ok difftest: {name}, seed {seed}: {number} cases in {seconds:.0} s");
     true
 }

@@ -34,6 +34,8 @@ pub struct Wire {
     pub time: bool,
     /// Whether the meter always waits until the panel is idle.
     pub patient: bool,
+    /// Whether another panel shares the wire: then nothing resets this one.
+    pub shared: bool,
     /// Microseconds for which the panel is still busy.
     left: u16,
     re: bool,
@@ -52,11 +54,24 @@ impl Wire {
             capture: Vec::new(),
             time,
             patient: false,
+            shared: false,
             left: 0,
             re: false,
             bits: Vec::new(),
             header: None,
         }
+    }
+
+    /// From here on the wire is shared, and serial.
+    pub fn share(&mut self) {
+        self.link = Link::Serial;
+        self.shared = true;
+        self.begin_anew();
+    }
+
+    /// The next write has a header: others were sent to, and the panel may have lost sync.
+    pub fn begin_anew(&mut self) {
+        self.header = None;
     }
 
     pub fn records(&self) -> usize {
