@@ -7,8 +7,10 @@
 //!                                    random pairs until MANY bits of the wire were compared, or for so many seconds
 //!     difftest file FILE             one capture, without time and with it
 //!     difftest show WORDS..          what `show` should print, from the model (module `shown`)
+//!     difftest cabinet FONT          what `cabinet` should print for the wire on standard input, from the model
 //!
 //! It is run at the project's root. A difference is made small and written to target/difftest.
+mod cabinet;
 mod captures;
 mod case;
 mod compare;
@@ -57,6 +59,7 @@ fn run(words: &[&str]) -> Option<bool> {
         ["soak-pairs", ref words @ ..] => soak::<Pairs>(words),
         ["file", path] => Some(file::run(path)),
         ["show", ref words @ ..] => Some(shown::run(words)),
+        ["cabinet", font] => Some(cabinet::run(font)),
         _ => None,
     }
 }
@@ -65,7 +68,8 @@ fn main() {
     let words: Vec<String> = std::env::args().skip(1).collect();
     let words: Vec<&str> = words.iter().map(String::as_str).collect();
     let passed = run(&words).unwrap_or_else(|| {
-        eprintln!("usage: difftest [soak [RECORDS | SECONDSs] [SEED] | soak-pairs [BITS | SECONDSs] [SEED] | file FILE | show WORDS..]");
+        eprintln!("usage: difftest [soak [RECORDS | SECONDSs] [SEED] | soak-pairs [BITS | SECONDSs] [SEED]");
+        eprintln!("                | file FILE | show WORDS.. | cabinet FONT]");
         false
     });
     if !passed {

@@ -16,13 +16,13 @@ struct Asked {
     pbm: bool,
 }
 
-fn file(path: &str) -> Result<Vec<u8>, String> {
+pub fn file(path: &str) -> Result<Vec<u8>, String> {
     std::fs::read(path).map_err(|error| format!("{path}: {error}"))
 }
 
 /// The half font that a source draws: characters from 20h on, eight to a strip, each six dots wide and thirteen high. A drawing stands one
 /// dot from the left of its glyph and begins at row 2.
-fn drawn(source: &[u8]) -> Vec<u8> {
+pub fn drawn(source: &[u8]) -> Vec<u8> {
     let source = String::from_utf8_lossy(source);
     let is_row = |line: &&str| line.len() == 55 && line.chars().all(|c| ".# ".contains(c));
     let line = |line: &'_ str| line.trim().trim_end_matches(['\\', ';', '"']).to_string();
@@ -85,7 +85,7 @@ fn dot(frame: &[u8], x: usize, y: usize) -> bool {
 }
 
 /// Two dots by four, in a box.
-fn braille(frame: &[u8]) -> String {
+pub fn braille(frame: &[u8]) -> String {
     // where dot n + 1 of a Braille character stands
     let places = [
         (0, 0),
