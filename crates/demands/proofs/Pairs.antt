@@ -12,7 +12,7 @@ use Rattle.links.specs.Idle.{isSerial}
 use Rattle.picture.specs.Picture.{Seen}
 use Rattle.picture.specs.Refusals.{lentRefusal}
 use Rattle.lent_pair.specs.declared.Clock.{Clock}
-use Rattle.lent_pair.specs.Pair.{Side, refusedOn, pairRefusal, PairCalled, pairCalled}
+use Rattle.lent_pair.specs.Pair.{Side, refusedSide, pairRefusal, PairCalled, pairCalled}
 use Rattle.lent_pair.proofs.Both.{both-ready, takes, pair-unmoved}
 use Rattle.pair_bytes.specs.Report.{spelledSide, pairReport, pairReported}
 use Rattle.pair_bytes.proofs.Told.{number-alone}
@@ -91,7 +91,7 @@ module _ (l r : Side) where
         record {
           says = rw left-number pair-says;
           saysBoth = right-number ∙ sym left-number;
-          keeps = λ h. pair-unmoved l r clock h ∙ ap (λ (n : ℕ). record { left = refusedOn l n; right = refusedOn r n }) (sym left-number);
+          keeps = λ h. pair-unmoved l r clock h ∙ ap (λ (n : ℕ). record { left = refusedSide l n; right = refusedSide r n }) (sym left-number);
         }
 
 pub exported-pair-refuses : ExportedPairRefuses

@@ -20,7 +20,7 @@ use Rattle.calls.specs.State.{Valid}
 use Rattle.calls.specs.Calls.{Called, Stands, afterCalls}
 use Rattle.calls.proofs.Kept.{called-valid, still-fits}
 use Rattle.lent_pair.specs.declared.Clock.{Clock}
-use Rattle.lent_pair.specs.Pair.{Side, comesTo, toLeft, toRight, calledOn, refusedOn, pairRefusal, PairCalled, pairCalled}
+use Rattle.lent_pair.specs.Pair.{Side, comesTo, toLeft, toRight, calledSide, refusedSide, pairRefusal, PairCalled, pairCalled}
 use Rattle.lent_pair.proofs.Both.{Ready, BothReady, both-ready, ready-both, takes}
 use Rattle.pair_bytes.specs.Report.{KeptBytes, spelledSide, keptAfter, pairReported}
 use Rattle.state_bytes.specs.LinkPacked.{linkPacked, unpackedLink}
@@ -28,30 +28,30 @@ use Rattle.state_bytes.proofs.PackedUnpacked.{unpacked-packed, unpacked-in-rang
 use Rattle.state_bytes.proofs.LinkRead.{unpacked-link-packed}
 use Rattle.demands.specs.Wires.{answers, sum}
 use Rattle.demands.specs.Demand3.{pictureOf, everNamed}
-use Rattle.demands.specs.TwoPanels.{Which, theLeft, theRight, of, brings, leaves, next, clockAnswers, afterClocks, EndsAsAlone, AnswersAsAlone, CountsAsAlone, NeverTouched, RefusedTouchesNeither, EachPictureStands, EachNamedBytesShown, Sized, BytesKeepThePair, TwoPanels}
+use Rattle.demands.specs.TwoPanels.{Which, theLeft, theRight, of, brings, leaves, nextSide, clockAnswers, afterClocks, EndsAsAlone, AnswersAsAlone, CountsAsAlone, NeverTouched, RefusedTouchesNeither, EachPictureStands, EachNamedBytesShown, Sized, BytesKeepThePair, TwoPanels}
 use Rattle.demands.proofs.Sequences.{after-shows}
 use Rattle.demands.proofs.Demand3.{demand-3}
 
 -- a clock that is refused, and one that is not
-refused-clock : (l r : Side) (clock : Clock) → pairRefusal l r ≢ 0 → pairCalled l r clock ≡ record { left = refusedOn l (pairRefusal l r); right = refusedOn r (pairRefusal l r) }
+refused-clock : (l r : Side) (clock : Clock) → pairRefusal l r ≢ 0 → pairCalled l r clock ≡ record { left = refusedSide l (pairRefusal l r); right = refusedSide r (pairRefusal l r) }
 unfolding pairCalled
 refused-clock l r clock h = rw (ne-eqb _ 0 h)
 
-taken-clock : (l r : Side) (clock : Clock) → pairRefusal l r ≡ 0 → pairCalled l r clock ≡ record { left = calledOn l (toLeft clock); right = calledOn r (toRight clock) }
+taken-clock : (l r : Side) (clock : Clock) → pairRefusal l r ≡ 0 → pairCalled l r clock ≡ record { left = calledSide l (toLeft clock); right = calledSide r (toRight clock) }
 unfolding pairCalled
 taken-clock l r clock h = rw (eq-eqb _ 0 h)
 
 -- the next clock finds the sides ready
-still-ready : (x : Side) (select bit : Bool) (k : Called) → Ready x → k ≡ calledOn x (comesTo select bit) → Ready (next x k)
+still-ready : (x : Side) (select bit : Bool) (k : Called) → Ready x → k ≡ calledSide x (comesTo select bit) → Ready (nextSide x k)
 still-ready x select bit k h is =
     rw is (record { fits = still-fits (x .seen) (x .state) (x .frame) (comesTo select bit) (h .fits); serial = takes x h select bit .serial })
 
 module _ (l r : Side) (clock : Clock) (h : pairRefusal l r ≡ 0) where
-  pub own : (w : Which) → leaves w (pairCalled l r clock) ≡ calledOn (of w l r) (brings w clock)
+  pub own : (w : Which) → leaves w (pairCalled l r clock) ≡ calledSide (of w l r) (brings w clock)
   own theLeft = ap (λ (k : PairCalled). k .left) (taken-clock l r clock h)
   own theRight = ap (λ (k : PairCalled). k .right) (taken-clock l r clock h)
 
-  pub next-taken : pairRefusal (next l (pairCalled l r clock .left)) (next r (pairCalled l r clock .right)) ≡ 0
+  pub next-taken : pairRefusal (nextSide l (pairCalled l r clock .left)) (nextSide r (pairCalled l r clock .right)) ≡ 0
   next-taken =
       let both = both-ready l r h in
       ready-both _ _ (record {
@@ -60,7 +60,7 @@ module _ (l r : Side) (clock : Clock) (h : pairRefusal l r ≡ 0) where
       })
 
 -- a side's next is the next of that side
-of-next : (w : Which) (l r : Side) (k : PairCalled) → of w (next l (k .left)) (next r (k .right)) ≡ next (of w l r) (leaves w k)
+of-next : (w : Which) (l r : Side) (k : PairCalled) → of w (nextSide l (k .left)) (nextSide r (k .right)) ≡ nextSide (of w l r) (leaves w k)
 of-next theLeft l r k = refl
 of-next theRight l r k = refl
 
@@ -74,17 +74,17 @@ ends-as-alone : EndsAsAlone
 unfolding afterClocks afterCalls
 ends-as-alone w l r [] h = refl
 ends-as-alone w l r (clock ∷ clocks) h =
-    ends-as-alone w (next l (pairCalled l r clock .left)) (next r (pairCalled l r clock .right)) clocks (next-taken l r clock h)
-    ∙ ap (λ (x : Side). aloneAfter x (map (brings w) clocks)) (of-next w l r (pairCalled l r clock) ∙ ap (next (of w l r)) (own l r clock h w))
+    ends-as-alone w (nextSide l (pairCalled l r clock .left)) (nextSide r (pairCalled l r clock .right)) clocks (next-taken l r clock h)
+    ∙ ap (λ (x : Side). aloneAfter x (map (brings w) clocks)) (of-next w l r (pairCalled l r clock) ∙ ap (nextSide (of w l r)) (own l r clock h w))
 
 answers-as-alone : AnswersAsAlone
 unfolding clockAnswers answers
 answers-as-alone w l r [] h = refl
 answers-as-alone w l r (clock ∷ clocks) h =
     ap (λ (ks : List Called). leaves w (pairCalled l r clock) ∷ ks)
-    (answers-as-alone w (next l (pairCalled l r clock .left)) (next r (pairCalled l r clock .right)) clocks (next-taken l r clock h)
+    (answers-as-alone w (nextSide l (pairCalled l r clock .left)) (nextSide r (pairCalled l r clock .right)) clocks (next-taken l r clock h)
     ∙ ap (λ (x : Side). aloneAnswers x (map (brings w) clocks)) (of-next w l r (pairCalled l r clock)))
-    ∙ ap (λ (k : Called). k ∷ aloneAnswers (next (of w l r) k) (map (brings w) clocks)) (own l r clock h w)
+    ∙ ap (λ (k : Called). k ∷ aloneAnswers (nextSide (of w l r) k) (map (brings w) clocks)) (own l r clock h w)
 
 counts-as-alone : CountsAsAlone
 counts-as-alone w l r clocks h = ap (λ (ks : List Called). sum (map (λ k. k .count) ks)) (answers-as-alone w l r clocks h)
@@ -100,7 +100,7 @@ refused-touches-neither : RefusedTouchesNeither
 unfolding afterClocks
 refused-touches-neither w l r [] h = refl
 refused-touches-neither w l r (clock ∷ clocks) h =
-    ap (λ (k : PairCalled). afterClocks w (next l (k .left)) (next r (k .right)) clocks) (refused-clock l r clock h)
+    ap (λ (k : PairCalled). afterClocks w (nextSide l (k .left)) (nextSide r (k .right)) clocks) (refused-clock l r clock h)
     ∙ refused-touches-neither w l r clocks h
 
 each-picture-stands : EachPictureStands
@@ -129,7 +129,7 @@ each-named-bytes-shown w l r clocks i h v lt =
 refused-kept :
     (e : Seen) (b : KeptBytes) (n : ℕ)
     → n ≢ 0
-    → spelledSide e (keptAfter b (refusedOn (spelledSide e b) n)) ≡ next (spelledSide e b) (refusedOn (spelledSide e b) n)
+    → spelledSide e (keptAfter b (refusedSide (spelledSide e b) n)) ≡ nextSide (spelledSide e b) (refusedSide (spelledSide e b) n)
 refused-kept e b n h = rw (ne-eqb n 0 h)
 
 serial-read : (l : Link) → isSerial l ≡ true → unpackedLink (linkPacked l) ≡ l
@@ -142,20 +142,20 @@ read-back :
     → k .number ≡ 0
     → InRange (k .state .control)
     → isSerial (k .state .link) ≡ true
-    → spelledSide e (keptAfter b k) ≡ next (spelledSide e b) k
+    → spelledSide e (keptAfter b k) ≡ nextSide (spelledSide e b) k
 read-back e b k z c l = rw (eq-eqb _ 0 z, unpacked-packed (k .state .control) c, serial-read (k .state .link) l)
 
 taken-kept :
     (e : Seen) (b : KeptBytes) (select bit : Bool)
     → Sized (b .memories)
     → Ready (spelledSide e b)
-    → let k = calledOn (spelledSide e b) (comesTo select bit) in
-    spelledSide e (keptAfter b k) ≡ next (spelledSide e b) k
+    → let k = calledSide (spelledSide e b) (comesTo select bit) in
+    spelledSide e (keptAfter b k) ≡ nextSide (spelledSide e b) k
 taken-kept e b select bit m h =
     let x = spelledSide e b in
     let valid : Valid (x .state) = record { control = unpacked-in-range (b .control); text = m .text; glyph = m .glyph; graphic = m .graphic } in
     let took = takes x h select bit in
-    read-back e b (calledOn x (comesTo select bit)) (took .number) (called-valid e (x .state) (x .frame) (comesTo select bit) valid .control) (took .serial)
+    read-back e b (calledSide x (comesTo select bit)) (took .number) (called-valid e (x .state) (x .frame) (comesTo select bit) valid .control) (took .serial)
 
 bytes-keep-the-pair : BytesKeepThePair
 unfolding pairReported

@@ -20,7 +20,7 @@ use Rattle.picture.specs.Refusals.{drawn, drawing}
 use Rattle.calls.specs.State.{State}
 use Rattle.calls.specs.Calls.{timeless, called, refused, afterCalls}
 use Rattle.lent_pair.specs.declared.Clock.{Clock}
-use Rattle.lent_pair.specs.Pair.{Side, refusedOn, pairCalled}
+use Rattle.lent_pair.specs.Pair.{Side, refusedSide, pairCalled}
 use Rattle.pair_bytes.specs.Report.{KeptBytes, spelledSide, pairReport, pairReported}
 use Rattle.demands.specs.Wires.{numbersOf}
 use Rattle.capture.specs.declared.Answer.{Answer}
@@ -98,7 +98,7 @@ pub record PairRefuses (l r : Side) (clock : Clock) : Type 0 where
   pub keeps :
       pairCalled l r clock .left .number ≢ 0
       → pairCalled l r clock
-      ≡ record { left = refusedOn l (pairCalled l r clock .left .number); right = refusedOn r (pairCalled l r clock .left .number) }
+      ≡ record { left = refusedSide l (pairCalled l r clock .left .number); right = refusedSide r (pairCalled l r clock .left .number) }
 
 -- drawing afresh takes frame and fonts, on either link
 pub record DrawRefuses (e : Seen) (m : Memories) (c : Control) (frame : List ℕ) : Type 0 where

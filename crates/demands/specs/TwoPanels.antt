@@ -36,22 +36,22 @@ abbrev pub leaves : Which → PairCalled → Called
 leaves w k = of w (k .left) (k .right)
 
 -- a side after a call
-abbrev pub next : Side → Called → Side
-next x k = side (x .seen) (k .state) (k .frame)
+abbrev pub nextSide : Side → Called → Side
+nextSide x k = side (x .seen) (k .state) (k .frame)
 
 -- what each clock of a list leaves and answers
 unfoldable pub clockAnswers : Side → Side → List Clock → List PairCalled
 clockAnswers l r [] = []
 clockAnswers l r (clock ∷ clocks) =
-    pairCalled l r clock ∷ clockAnswers (next l (pairCalled l r clock .left)) (next r (pairCalled l r clock .right)) clocks
+    pairCalled l r clock ∷ clockAnswers (nextSide l (pairCalled l r clock .left)) (nextSide r (pairCalled l r clock .right)) clocks
 
 -- where a side stands then
 unfoldable pub afterClocks : Which → Side → Side → List Clock → Side
 afterClocks w l r [] = of w l r
-afterClocks w l r (clock ∷ clocks) = afterClocks w (next l (pairCalled l r clock .left)) (next r (pairCalled l r clock .right)) clocks
+afterClocks w l r (clock ∷ clocks) = afterClocks w (nextSide l (pairCalled l r clock .left)) (nextSide r (pairCalled l r clock .right)) clocks
 
-abbrev pub standing : Side → Stands
-standing x = record { state = x .state; frame = x .frame }
+abbrev pub sideStands : Side → Stands
+sideStands x = record { state = x .state; frame = x .frame }
 
 -- nothing is refused: then each panel ends as it would alone, and answers at each clock as it would alone, on the events that are its own:
 -- the bit where its select was high, a select-low where it was low
@@ -59,7 +59,7 @@ abbrev pub EndsAsAlone : Type 0
 EndsAsAlone =
     (w : Which) (l r : Side) (clocks : List Clock)
     → pairRefusal l r ≡ 0
-    → standing (afterClocks w l r clocks) ≡ afterCalls (of w l r .seen) (of w l r .state) (of w l r .frame) (map (brings w) clocks)
+    → sideStands (afterClocks w l r clocks) ≡ afterCalls (of w l r .seen) (of w l r .state) (of w l r .frame) (map (brings w) clocks)
 
 abbrev pub AnswersAsAlone : Type 0
 AnswersAsAlone =
@@ -83,7 +83,7 @@ NeverTouched =
     → pairRefusal l′ r′ ≡ 0
     → of w l r ≡ of w l′ r′
     → map (brings w) clocks ≡ map (brings w) clocks′
-    → standing (afterClocks w l r clocks) ≡ standing (afterClocks w l′ r′ clocks′)
+    → sideStands (afterClocks w l r clocks) ≡ sideStands (afterClocks w l′ r′ clocks′)
 
 -- and where something is refused, no list of clocks touches either
 abbrev pub RefusedTouchesNeither : Type 0
@@ -126,8 +126,8 @@ BytesKeepThePair =
     → Sized (l .memories)
     → Sized (r .memories)
     → let k = pairCalled (spelledSide el l) (spelledSide er r) clock in
-    (spelledSide el (pairReported el l er r clock .left) ≡ next (spelledSide el l) (k .left))
-    × (spelledSide er (pairReported el l er r clock .right) ≡ next (spelledSide er r) (k .right))
+    (spelledSide el (pairReported el l er r clock .left) ≡ nextSide (spelledSide el l) (k .left))
+    × (spelledSide er (pairReported el l er r clock .right) ≡ nextSide (spelledSide er r) (k .right))
 
 pub record TwoPanels : Type 0 where
   pub ends : EndsAsAlone

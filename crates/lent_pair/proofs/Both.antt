@@ -21,8 +21,8 @@ use Rattle.calls.proofs.Kept.{called-valid, called-count}
 use Rattle.calls.proofs.Serial.{TakenSilently, bit-silent, select-low-silent}
 use Rattle.lent_pair.specs.declared.Clock.{Clock}
 use Rattle.lent_pair.specs.declared.LentPairOutcome.{LentPairOutcome}
-use Rattle.lent_pair.specs.Pair.{Side, comesTo, toLeft, toRight, firstRefusal, pairRefusal, PairCalled, calledOn, refusedOn, pairCalled}
-use Rattle.lent_pair.specs.Left.{bothAnswered, answered, pairLeft}
+use Rattle.lent_pair.specs.Pair.{Side, comesTo, toLeft, toRight, firstRefusal, pairRefusal, PairCalled, calledSide, refusedSide, pairCalled}
+use Rattle.lent_pair.specs.Left.{bothAnswered, sideLeft, pairLeft}
 
 -- a side that is not refused
 pub record Ready (x : Side) : Type 0 where
@@ -63,15 +63,15 @@ unfolding pairRefusal
 ready-both l r h = rw (h .left .fits, h .right .fits, h .left .serial, h .right .serial)
 
 -- on such a side what comes at a clock is taken
-pub takes : (x : Side) → Ready x → (select bit : Bool) → TakenSilently (calledOn x (comesTo select bit))
+pub takes : (x : Side) → Ready x → (select bit : Bool) → TakenSilently (calledSide x (comesTo select bit))
 takes x h true bit = bit-silent (x .seen) (x .state) (x .frame) bit (h .fits) (h .serial)
 takes x h false bit = select-low-silent (x .seen) (x .state) (x .frame) (h .fits) (h .serial)
 
 -- with number 0 and no reply
-abbrev answeredAs : ℕ → Called → Called
-answeredAs n k = answered (k .state) n (k .count) (k .frame)
+abbrev sideLeftAs : ℕ → Called → Called
+sideLeftAs n k = sideLeft (k .state) n (k .count) (k .frame)
 
-answered-so : (k : Called) → TakenSilently k → answeredAs 0 k ≡ k
+answered-so : (k : Called) → TakenSilently k → sideLeftAs 0 k ≡ k
 answered-so k t =
     ap (λ (x : ℕ). record { state = k .state; number = x; reply = 0; count = k .count; frame = k .frame }) (sym (t .number))
     ∙ ap (λ (x : ℕ). record { state = k .state; number = k .number; reply = x; count = k .count; frame = k .frame }) (sym (t .reply))
@@ -82,7 +82,7 @@ module _ (l r : Side) (clock : Clock) {n : ℕ} {p q : Bool} (left-serial : p �
   unfolding pairRefusal
   number-is = rw (left-serial, right-serial) at first
 
-  pub refuses : n ≢ 0 → record { left = refusedOn l n; right = refusedOn r n } ≡ pairCalled l r clock
+  pub refuses : n ≢ 0 → record { left = refusedSide l n; right = refusedSide r n } ≡ pairCalled l r clock
   unfolding pairCalled
   refuses h = rw (← number-is, ne-eqb n 0 h)
 
@@ -92,9 +92,9 @@ module _ (l r : Side) (clock : Clock) {n : ℕ} {p q : Bool} (left-serial : p �
       → to-left ≡ toLeft clock
       → to-right ≡ toRight clock
       → {x y : Called}
-      → x ≡ calledOn l to-left
-      → y ≡ calledOn r to-right
-      → record { left = answeredAs 0 x; right = answeredAs 0 y } ≡ pairCalled l r clock
+      → x ≡ calledSide l to-left
+      → y ≡ calledSide r to-right
+      → record { left = sideLeftAs 0 x; right = sideLeftAs 0 y } ≡ pairCalled l r clock
   unfolding pairCalled
   accepts h tl tr hx hy =
       let ready = both-ready l r (sym number-is ∙ h) in
@@ -107,8 +107,8 @@ module _ (l r : Side) (clock : Clock) {n : ℕ} {p q : Bool} (left-serial : p �
       → to-left ≡ toLeft clock
       → to-right ≡ toRight clock
       → {x y : LentOutcome} {lm rm : Memories} {lf rf : List ℕ}
-      → left x lm lf ≡ calledOn l to-left
-      → left y rm rf ≡ calledOn r to-right
+      → left x lm lf ≡ calledSide l to-left
+      → left y rm rf ≡ calledSide r to-right
       → {o : LentPairOutcome}
       → o ≡ bothAnswered x y
       → pairLeft o lm rm lf rf ≡ pairCalled l r clock
@@ -155,10 +155,10 @@ right-count l r clock =
 pub pair-unmoved :
     (l r : Side) (clock : Clock)
     → pairCalled l r clock .left .number ≢ 0
-    → pairCalled l r clock ≡ record { left = refusedOn l (pairRefusal l r); right = refusedOn r (pairRefusal l r) }
+    → pairCalled l r clock ≡ record { left = refusedSide l (pairRefusal l r); right = refusedSide r (pairRefusal l r) }
 unfolding pairCalled
 pair-unmoved l r clock =
-    either-told (λ (k : PairCalled). k .left .number ≢ 0 → k ≡ record { left = refusedOn l (pairRefusal l r); right = refusedOn r (pairRefusal l r) })
+    either-told (λ (k : PairCalled). k .left .number ≢ 0 → k ≡ record { left = refusedSide l (pairRefusal l r); right = refusedSide r (pairRefusal l r) })
     (eqb (pairRefusal l r) 0)
     (λ t h. absurd (h (takes l (both-ready l r (eqb-true _ 0 t) .left) (clock .left) (clock .bit) .number)))
     (λ t h. refl)

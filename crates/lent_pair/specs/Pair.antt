@@ -49,15 +49,15 @@ pub record PairCalled : Type 0 where
   pub left : Called
   pub right : Called
 
-abbrev pub calledOn : Side → Event → Called
-calledOn x event = called (x .seen) (x .state) (x .frame) event
+abbrev pub calledSide : Side → Event → Called
+calledSide x event = called (x .seen) (x .state) (x .frame) event
 
-abbrev pub refusedOn : Side → ℕ → Called
-refusedOn x number = refused (x .state) (x .frame) number
+abbrev pub refusedSide : Side → ℕ → Called
+refusedSide x number = refused (x .state) (x .frame) number
 
 -- a refusal touches neither; else each panel takes what comes to it
 unfoldable pub pairCalled : Side → Side → Clock → PairCalled
 pairCalled l r clock =
     if eqb (pairRefusal l r) 0
-    then record { left = calledOn l (toLeft clock); right = calledOn r (toRight clock) }
-    else record { left = refusedOn l (pairRefusal l r); right = refusedOn r (pairRefusal l r) }
+    then record { left = calledSide l (toLeft clock); right = calledSide r (toRight clock) }
+    else record { left = refusedSide l (pairRefusal l r); right = refusedSide r (pairRefusal l r) }

@@ -1,8 +1,8 @@
 // A clock of the wire on memories that a board keeps and lends. It leaves what the call by value leaves.
 use crate::Clock;
-use crate::Counts;
 use crate::Kept;
 use crate::LentPairOutcome;
+use crate::PairCounts;
 use crate::wire::comes_to;
 use crate::wire::first_refusal;
 use crate::wire::is_serial;
@@ -32,7 +32,7 @@ fn both(left: LentOutcome, right: LentOutcome) -> LentPairOutcome
         left: kept(left),
         right: kept(right),
         number: 0,
-        counts: Counts {
+        counts: PairCounts {
             left: left.count,
             right: right.count,
         },
@@ -47,7 +47,7 @@ fn refused(left: Kept, right: Kept, number: u8) -> LentPairOutcome
         left,
         right,
         number,
-        counts: Counts { left: 0, right: 0 },
+        counts: PairCounts { left: 0, right: 0 },
     }
 }
 

@@ -17,7 +17,7 @@ pub struct Clock {
 }
 
 // How many bytes of either frame were named.
-pub struct Counts {
+pub struct PairCounts {
     pub left: usize,
     pub right: usize,
 }
@@ -33,5 +33,5 @@ pub struct LentPairOutcome {
     pub left: Kept,
     pub right: Kept,
     pub number: u8,
-    pub counts: Counts,
+    pub counts: PairCounts,
 }

@@ -1,6 +1,6 @@
 // Two panels on one wire, by value. A pair is made of two panels, and taken apart into them again by its fields, so that every other call
 // can be made on one side.
-use lent_pair::Counts;
+use lent_pair::PairCounts;
 use panel::Panel;
 
 mod methods;
@@ -14,5 +14,5 @@ pub struct Pair {
 pub struct PairOutcome {
     pub pair: Pair,
     pub number: u8,
-    pub counts: Counts,
+    pub counts: PairCounts,
 }

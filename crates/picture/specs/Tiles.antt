@@ -14,7 +14,7 @@ use Rattle.controller.specs.declared.Cell.the-variants.{Nowhere, Word}
 use Rattle.controller.specs.Glass.{shownRow}
 use Rattle.glyph.specs.Tiles.{tileDots}
 use Rattle.picture.specs.declared.Look.{Look}
-use Rattle.picture.specs.declared.Pair.{Pair}
+use Rattle.picture.specs.declared.TwoBytes.{TwoBytes}
 use Rattle.picture.specs.Picture.{Fonts, wordContent, graphicByte, atCounter, filled, inverted, overlaid}
 
 -- the counter's word, or 64, which no cell shows
@@ -71,10 +71,10 @@ shownBy tile graphic look row column =
     else overlaid (look .graphic) (graphicByte graphic (look .view) row column) (getD tile (2 * (shownRow (look .view) row % 16) + column % 2) 0)
 
 -- one row of a cell: its two bytes, by the tile; two bytes stored at a place of a frame and at the next; and which bytes of the glass they are
-abbrev pub pairBy : List ℕ → List ℕ → Look → ℕ → ℕ → Pair
+abbrev pub pairBy : List ℕ → List ℕ → Look → ℕ → ℕ → TwoBytes
 pairBy tile graphic look row cell = record { left = shownBy tile graphic look row (2 * cell); right = shownBy tile graphic look row (2 * cell + 1) }
 
-abbrev pub pairStored : List ℕ → ℕ → Pair → List ℕ
+abbrev pub pairStored : List ℕ → ℕ → TwoBytes → List ℕ
 pairStored frame place pair = set (set frame place (pair .left)) (place + 1) (pair .right)
 
 abbrev pub inCellRow : ℕ → ℕ → ℕ → ℕ → Bool

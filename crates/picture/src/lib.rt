@@ -21,7 +21,7 @@ pub struct Look {
 }
 
 // The two bytes of one row of a cell.
-pub struct Pair {
+pub struct TwoBytes {
     pub left: u8,
     pub right: u8,
 }

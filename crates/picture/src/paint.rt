@@ -1,6 +1,6 @@
 // Single bytes of the picture, and the painter of one row of a cell.
 use crate::Look;
-use crate::Pair;
+use crate::TwoBytes;
 use crate::shade::both;
 use crate::shade::counter_word;
 use crate::shade::invert;
@@ -19,7 +19,7 @@ ghost use Rattle.picture.specs.Picture.{fonts, byteOver, byteAt};
 ghost use Rattle.picture.specs.Tiles.{pairStored};
 
 // The row painter: it is lent the two bytes of one row of a cell, and nothing else.
-pub fn paint_row(part: &mut [u8], pair: Pair)
+pub fn paint_row(part: &mut [u8], pair: TwoBytes)
     requires { ⌜ length (now part) ≡ 2 ⌝ }
     ensures { λ _. ⌜ now (part .exit) ≡ pairStored (now (part .entry)) 0 pair ⌝ }
 {

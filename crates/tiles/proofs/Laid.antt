@@ -25,7 +25,7 @@ use Rattle.controller.specs.Memories.{Memories, half}
 use Rattle.controller.specs.Glass.{shownRow, shownWord}
 use Rattle.picture.specs.Picture.{Fonts, right, cellByte, graphicByte, filled, inverted, overlaid, byteOver, byteAt, wide, picture}
 use Rattle.picture.specs.Tiles.{counterWord, wordDots, lineWord, counterTile, underlined, turned, tileByte, byTile, fromTiles, inRows, shownBy, pairBy}
-use Rattle.picture.specs.declared.Pair.{Pair}
+use Rattle.picture.specs.declared.TwoBytes.{TwoBytes}
 use Rattle.picture.proofs.Bytes.{counter-here}
 use Rattle.picture.proofs.Unread.{half-right}
 use Rattle.picture.proofs.Wide.{rows-lie}
@@ -373,7 +373,7 @@ module _ (e : Fonts) (m : Memories) (look : Look) where
           ∙ ap (painted B (on wide (byteAt e m look))) a ∙ painted-twice B out (on wide (byteAt e m look)) f
           ∙ painted-same B _ (on wide (byteAt e m look)) f (λ i l. rows-lie row end i)
 
-abbrev pub pairOf : ℕ → ℕ → Pair
+abbrev pub pairOf : ℕ → ℕ → TwoBytes
 pairOf left right = record { left = left; right = right }
 
 -- the two bytes of a cell, by its tile

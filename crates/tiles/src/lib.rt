@@ -3,7 +3,7 @@ use controller::places::row_place;
 use events::Numbering;
 use glyph::tile::lay;
 use picture::Look;
-use picture::Pair;
+use picture::TwoBytes;
 use picture::shade::both;
 use picture::shade::counter_word;
 use picture::shade::lit;
@@ -175,14 +175,14 @@ pub fn lay_tile(
 }
 
 // The two bytes that a cell's tile shows on a row of the glass.
-pub fn tile_pair(tile: &[u8; 32], graphic: &[u8; 2048], look: Look, row: u32, cell: u32) -> Pair
+pub fn tile_pair(tile: &[u8; 32], graphic: &[u8; 2048], look: Look, row: u32, cell: u32) -> TwoBytes
     requires { ⌜ (row < 32) × (cell < 16) ⌝ }
     ensures { λ r. ⌜ r ≡ pairBy (now (tile .entry)) (now (graphic .entry)) look row cell ⌝ }
 {
     let s = shown_row(look.view, row);
     let at = 2 * ((s % 16) as usize);
     let place = row_place(s, 2 * cell);
-    Pair {
+    TwoBytes {
         left: lit(look.dark, look.graphic, graphic[place], tile[at]),
         right: lit(look.dark, look.graphic, graphic[place + 1], tile[at + 1]),
     }
