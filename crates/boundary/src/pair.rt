@@ -2,7 +2,7 @@
 ghost use mathlib.Core.Path.{_≡_};
 ghost use Rattle.controller.specs.Memories.{before, after};
 ghost use Rattle.picture.specs.Picture.{seen};
-ghost use Rattle.pair_bytes.specs.Report.{keptBytes, pairReport, pairReported};
+ghost use Rattle.pair_bytes.specs.Report.{sideBytes, pairReport, pairReported};
 
 // A clock of the wire comes to two panels that the caller keeps as bytes: the bit, and both selects. Answers the refusal number in bits
 // 7..0, the left panel's count in bits 19..8 and the right's in bits 31..20. Refused it leaves all that it was lent.
@@ -30,7 +30,7 @@ pub extern "C" fn zifqarell_pair_bit(
     right_full: &[u8],
     right_phase: bool,
 ) -> u32
-    ensures { λ r. ⌜ pairReport r (keptBytes (after «left_text» «left_glyph» «left_graphic») (now («left_control» .exit)) (now («left_link» .exit)) (now («left_frame» .exit))) (keptBytes (after «right_text» «right_glyph» «right_graphic») (now («right_control» .exit)) (now («right_link» .exit)) (now («right_frame» .exit))) ≡ pairReported (seen «left_half» «left_full» «left_phase») (keptBytes (before «left_text» «left_glyph» «left_graphic») (now («left_control» .entry)) (now («left_link» .entry)) (now («left_frame» .entry))) (seen «right_half» «right_full» «right_phase») (keptBytes (before «right_text» «right_glyph» «right_graphic») (now («right_control» .entry)) (now («right_link» .entry)) (now («right_frame» .entry))) (record { bit = bit; left = «left_select»; right = «right_select» }) ⌝ }
+    ensures { λ r. ⌜ pairReport r (sideBytes (after «left_text» «left_glyph» «left_graphic») (now («left_control» .exit)) (now («left_link» .exit)) (now («left_frame» .exit))) (sideBytes (after «right_text» «right_glyph» «right_graphic») (now («right_control» .exit)) (now («right_link» .exit)) (now («right_frame» .exit))) ≡ pairReported (seen «left_half» «left_full» «left_phase») (sideBytes (before «left_text» «left_glyph» «left_graphic») (now («left_control» .entry)) (now («left_link» .entry)) (now («left_frame» .entry))) (seen «right_half» «right_full» «right_phase») (sideBytes (before «right_text» «right_glyph» «right_graphic») (now («right_control» .entry)) (now («right_link» .entry)) (now («right_frame» .entry))) (record { bit = bit; left = «left_select»; right = «right_select» }) ⌝ }
 {
     pair_bytes::bit(
         left_text,

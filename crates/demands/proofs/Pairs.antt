@@ -1,9 +1,10 @@
 -- The number of a pair's call is the table's, and a refusal touches neither side.
-use Prim.Native.Nat.{ℕ}
+use Prim.Native.Nat.{ℕ, _<_}
 use mathlib.Core.Bool.{Bool, true, false, not, _&&_, true≢false}
 use mathlib.Core.List.{List}
 use mathlib.Core.Logic.{_≢_}
 use mathlib.Core.Path.{_≡_, refl, sym, ap, subst, _∙_}
+use native.Mathlib.Omega.{arith}
 use lib.Dec.{eqb}
 use borrow.Author.Tests.{eqb-true, eqb-false, ne-eqb, not-true, not-false}
 use Rattle.base.proofs.Choice.{either-told, by-test}
@@ -16,7 +17,7 @@ use Rattle.lent_pair.specs.Pair.{Side, refusedSide, pairRefusal, PairCalled, pa
 use Rattle.lent_pair.proofs.Both.{both-ready, takes, pair-unmoved}
 use Rattle.pair_bytes.specs.Report.{spelledSide, pairReport, pairReported}
 use Rattle.pair_bytes.proofs.Told.{number-alone}
-use Rattle.demands.specs.Demand1.{TableSays, BuffersSay, OneNumber, PairSays, leftBuffers, rightBuffers, notBothSerial, bothGood, PairRefuses, ExportedPairRefuses}
+use Rattle.demands.specs.Demand1.{TableSays, frameLength, halfFontLength, fullFontLength, wantOfTime, otherLink, allGood, BuffersSay, OneNumber, PairSays, leftBuffers, rightBuffers, notBothSerial, bothGood, PairRefuses, ExportedPairRefuses}
 use Rattle.demands.proofs.Tables.{orWants, table-says, table-number}
 
 -- the number of the buffers alone
@@ -42,6 +43,15 @@ never-both : (p q : Bool) → ((p ≡ true) × (q ≡ true) → ⊥) → (p && q
 never-both true true h = absurd (h (refl, refl))
 never-both true false h = refl
 never-both false q h = refl
+
+-- refusal numbers have a byte
+table-small : (e : Seen) (frame : List ℕ) (n : ℕ) → BuffersSay e frame n → n < 256
+table-small e frame n (frameLength g) = omega arith
+table-small e frame n (halfFontLength f g) = omega arith
+table-small e frame n (fullFontLength f h g) = omega arith
+table-small e frame n (wantOfTime f h g w) = omega arith
+table-small e frame n (otherLink f h g w o) = omega arith
+table-small e frame n (allGood f h g w o) = omega arith
 
 module _ (l r : Side) where
   pair-says : PairSays l r (pairRefusal l r)
@@ -71,8 +81,17 @@ module _ (l r : Side) where
   pub pair-once : OneNumber (PairSays l r)
   pair-once m n x y = pair-number m x ∙ sym (pair-number n y)
 
+  pair-small : (n : ℕ) → PairSays l r n → n < 256
+  pair-small n (leftBuffers _ h z) = table-small (l .seen) (l .frame) n h
+  pair-small n (rightBuffers _ g h z) = table-small (r .seen) (r .frame) n h
+  pair-small n (notBothSerial g h s) = omega arith
+  pair-small n (bothGood g h p q) = omega arith
+
+  pub refusal-small : pairRefusal l r < 256
+  refusal-small = pair-small (pairRefusal l r) pair-says
+
   module _ (clock : Clock) where
-    left-number : pairCalled l r clock .left .number ≡ pairRefusal l r
+    pub left-number : pairCalled l r clock .left .number ≡ pairRefusal l r
     unfolding pairCalled
     left-number =
         either-told (λ (k : PairCalled). k .left .number ≡ pairRefusal l r) (eqb (pairRefusal l r) 0)

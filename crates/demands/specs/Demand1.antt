@@ -21,7 +21,7 @@ use Rattle.calls.specs.State.{State}
 use Rattle.calls.specs.Calls.{timeless, called, refused, afterCalls}
 use Rattle.lent_pair.specs.declared.Clock.{Clock}
 use Rattle.lent_pair.specs.Pair.{Side, refusedSide, pairCalled}
-use Rattle.pair_bytes.specs.Report.{KeptBytes, spelledSide, pairReport, pairReported}
+use Rattle.pair_bytes.specs.Report.{SideBytes, spelledSide, pairReport, pairReported}
 use Rattle.demands.specs.Wires.{numbersOf}
 use Rattle.capture.specs.declared.Answer.{Answer}
 use Rattle.capture.specs.declared.Answer.the-variants.{Record, Refused, End}
@@ -226,7 +226,7 @@ ExportedReplayRefuses =
 
 abbrev pub ExportedPairRefuses : Type 0
 ExportedPairRefuses =
-    (el er : Seen) (l r : KeptBytes) (clock : Clock) (n : ℕ)
+    (el er : Seen) (l r : SideBytes) (clock : Clock) (n : ℕ)
     → PairSays (spelledSide el l) (spelledSide er r) n
     → n ≢ 0
     → pairReported el l er r clock ≡ pairReport n l r

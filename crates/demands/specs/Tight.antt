@@ -23,10 +23,10 @@ use Rattle.panel.specs.Handed.{stateOf, memoriesOf, handed}
 use Rattle.lent_pair.specs.declared.Clock.{Clock}
 use Rattle.lent_pair.specs.declared.LentPairOutcome.{LentPairOutcome}
 use Rattle.lent_pair.specs.Pair.{side, PairCalled, pairCalled}
-use Rattle.lent_pair.specs.Left.{pairLeft}
+use Rattle.lent_pair.specs.Lent.{pairLent}
 use Rattle.pair.specs.declared.PairOutcome.{PairOutcome}
 use Rattle.pair.specs.Handed.{pairHanded}
-use Rattle.pair_bytes.specs.Report.{KeptBytes, PairReport, pairReport, pairReported}
+use Rattle.pair_bytes.specs.Report.{SideBytes, PairReport, pairReport, pairReported}
 use Rattle.capture.specs.declared.Answer.{Answer}
 use Rattle.capture.specs.Record.{readFirst, number, takenWith}
 use Rattle.reader.specs.Capture.{stepAt}
@@ -106,12 +106,12 @@ pub record LeftLent : Type 0 where
   pub frame : List ℕ
 
 -- what a call of the pair leaves, by value and on lent memories
-pub record LeftPair : Type 0 where
+pub record PairWithFrames : Type 0 where
   pub outcome : PairOutcome
   pub leftFrame : List ℕ
   pub rightFrame : List ℕ
 
-pub record LeftLentPair : Type 0 where
+pub record LentPairWithFrames : Type 0 where
   pub answer : LentPairOutcome
   pub leftMemories : Memories
   pub rightMemories : Memories
@@ -122,8 +122,8 @@ pub record LeftLentPair : Type 0 where
 pub record ExportedClocking : Type 0 where
   pub leftSeen : Seen
   pub rightSeen : Seen
-  pub left : KeptBytes
-  pub right : KeptBytes
+  pub left : SideBytes
+  pub right : SideBytes
   pub clock : Clock
 
 -- a capture and a position in it
@@ -239,7 +239,7 @@ contractOf lentCall =
 contractOf pairBit =
     record {
       Input = Clocking Panel;
-      Outcome = LeftPair;
+      Outcome = PairWithFrames;
       Left = PairCalled;
       leaves = λ x. pairHanded (x .outcome) (x .leftFrame) (x .rightFrame);
       means = λ i. pairCalled (side (i .leftSeen) (stateOf (i .left)) (i .leftFrame)) (side (i .rightSeen) (stateOf (i .right)) (i .rightFrame)) (i .clock);
@@ -247,9 +247,9 @@ contractOf pairBit =
 contractOf lentPairBit =
     record {
       Input = Clocking State;
-      Outcome = LeftLentPair;
+      Outcome = LentPairWithFrames;
       Left = PairCalled;
-      leaves = λ x. pairLeft (x .answer) (x .leftMemories) (x .rightMemories) (x .leftFrame) (x .rightFrame);
+      leaves = λ x. pairLent (x .answer) (x .leftMemories) (x .rightMemories) (x .leftFrame) (x .rightFrame);
       means = λ i. pairCalled (side (i .leftSeen) (i .left) (i .leftFrame)) (side (i .rightSeen) (i .right) (i .rightFrame)) (i .clock);
     }
 contractOf send = sends

@@ -22,7 +22,7 @@ use Rattle.calls.proofs.Serial.{TakenSilently, bit-silent, select-low-silent}
 use Rattle.lent_pair.specs.declared.Clock.{Clock}
 use Rattle.lent_pair.specs.declared.LentPairOutcome.{LentPairOutcome}
 use Rattle.lent_pair.specs.Pair.{Side, comesTo, toLeft, toRight, firstRefusal, pairRefusal, PairCalled, calledSide, refusedSide, pairCalled}
-use Rattle.lent_pair.specs.Left.{bothAnswered, sideLeft, pairLeft}
+use Rattle.lent_pair.specs.Lent.{bothAnswered, sideAnswer, pairLent}
 
 -- a side that is not refused
 pub record Ready (x : Side) : Type 0 where
@@ -68,10 +68,10 @@ takes x h true bit = bit-silent (x .seen) (x .state) (x .frame) bit (h .fits) (h
 takes x h false bit = select-low-silent (x .seen) (x .state) (x .frame) (h .fits) (h .serial)
 
 -- with number 0 and no reply
-abbrev sideLeftAs : ℕ → Called → Called
-sideLeftAs n k = sideLeft (k .state) n (k .count) (k .frame)
+abbrev sideAnswerAs : ℕ → Called → Called
+sideAnswerAs n k = sideAnswer (k .state) n (k .count) (k .frame)
 
-answered-so : (k : Called) → TakenSilently k → sideLeftAs 0 k ≡ k
+answered-so : (k : Called) → TakenSilently k → sideAnswerAs 0 k ≡ k
 answered-so k t =
     ap (λ (x : ℕ). record { state = k .state; number = x; reply = 0; count = k .count; frame = k .frame }) (sym (t .number))
     ∙ ap (λ (x : ℕ). record { state = k .state; number = k .number; reply = x; count = k .count; frame = k .frame }) (sym (t .reply))
@@ -94,7 +94,7 @@ module _ (l r : Side) (clock : Clock) {n : ℕ} {p q : Bool} (left-serial : p �
       → {x y : Called}
       → x ≡ calledSide l to-left
       → y ≡ calledSide r to-right
-      → record { left = sideLeftAs 0 x; right = sideLeftAs 0 y } ≡ pairCalled l r clock
+      → record { left = sideAnswerAs 0 x; right = sideAnswerAs 0 y } ≡ pairCalled l r clock
   unfolding pairCalled
   accepts h tl tr hx hy =
       let ready = both-ready l r (sym number-is ∙ h) in
@@ -111,7 +111,7 @@ module _ (l r : Side) (clock : Clock) {n : ℕ} {p q : Bool} (left-serial : p �
       → left y rm rf ≡ calledSide r to-right
       → {o : LentPairOutcome}
       → o ≡ bothAnswered x y
-      → pairLeft o lm rm lf rf ≡ pairCalled l r clock
+      → pairLent o lm rm lf rf ≡ pairCalled l r clock
   accepts-lent h tl tr hx hy ho = rw ho (accepts h tl tr hx hy)
 
 pub both-in-range : {a b c d : Control} → a ≡ c → b ≡ d → InRange c → InRange d → InRange a × InRange b

@@ -1,2 +1,2 @@
 pub mod Pair
-pub mod Left
+pub mod Lent

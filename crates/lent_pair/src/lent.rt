@@ -13,7 +13,7 @@ ghost use Rattle.controller.specs.Memories.{before, after};
 ghost use Rattle.controller.specs.State.{InRange};
 ghost use Rattle.picture.specs.Picture.{seen};
 ghost use Rattle.lent_pair.specs.Pair.{side, pairCalled};
-ghost use Rattle.lent_pair.specs.Left.{keptOf, bothAnswered, bothRefused, keptState, pairLeft};
+ghost use Rattle.lent_pair.specs.Lent.{keptOf, bothAnswered, bothRefused, keptState, pairLent};
 
 // What a side keeps of its call's answer.
 fn kept(answer: LentOutcome) -> Kept
@@ -71,7 +71,7 @@ pub fn bit(
     right_phase: bool,
 ) -> LentPairOutcome
     requires { ⌜ InRange (left .control) × InRange (right .control) ⌝ }
-    ensures { λ r. ⌜ pairLeft r (after «left_text» «left_glyph» «left_graphic») (after «right_text» «right_glyph» «right_graphic») (now («left_frame» .exit)) (now («right_frame» .exit)) ≡ pairCalled (side (seen «left_half» «left_full» «left_phase») (keptState (before «left_text» «left_glyph» «left_graphic») left) (now («left_frame» .entry))) (side (seen «right_half» «right_full» «right_phase») (keptState (before «right_text» «right_glyph» «right_graphic») right) (now («right_frame» .entry))) clock ⌝ }
+    ensures { λ r. ⌜ pairLent r (after «left_text» «left_glyph» «left_graphic») (after «right_text» «right_glyph» «right_graphic») (now («left_frame» .exit)) (now («right_frame» .exit)) ≡ pairCalled (side (seen «left_half» «left_full» «left_phase») (keptState (before «left_text» «left_glyph» «left_graphic») left) (now («left_frame» .entry))) (side (seen «right_half» «right_full» «right_phase») (keptState (before «right_text» «right_glyph» «right_graphic») right) (now («right_frame» .entry))) clock ⌝ }
     ensures valid { λ r. ⌜ InRange (r .left .control) × InRange (r .right .control) ⌝ }
 {
     let left_link = left.link;

@@ -5,7 +5,7 @@ use Rattle.panel.specs.declared.Panel.{Panel}
 use Rattle.panel.specs.Handed.{stateOf}
 use Rattle.lent_pair.specs.declared.Kept.{Kept}
 use Rattle.lent_pair.specs.Pair.{PairCalled}
-use Rattle.lent_pair.specs.Left.{sideLeft}
+use Rattle.lent_pair.specs.Lent.{sideAnswer}
 use Rattle.pair.specs.declared.PairOutcome.{PairOutcome}
 
 -- memories, and what else a panel has, put together
@@ -15,6 +15,6 @@ panelOf text glyph graphic kept = record { text = text; glyph = glyph; graphic =
 abbrev pub pairHanded : PairOutcome → List ℕ → List ℕ → PairCalled
 pairHanded r leftFrame rightFrame =
     record {
-      left = sideLeft (stateOf (r .pair .left)) (r .number) (r .counts .left) leftFrame;
-      right = sideLeft (stateOf (r .pair .right)) (r .number) (r .counts .right) rightFrame;
+      left = sideAnswer (stateOf (r .pair .left)) (r .number) (r .counts .left) leftFrame;
+      right = sideAnswer (stateOf (r .pair .right)) (r .number) (r .counts .right) rightFrame;
     }

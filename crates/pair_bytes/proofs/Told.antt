@@ -14,11 +14,11 @@ use Rattle.lent_pair.specs.declared.Clock.{Clock}
 use Rattle.lent_pair.specs.declared.Kept.{Kept}
 use Rattle.lent_pair.specs.declared.LentPairOutcome.{LentPairOutcome}
 use Rattle.lent_pair.specs.Pair.{side, PairCalled, pairCalled}
-use Rattle.lent_pair.specs.Left.{keptState, pairLeft}
+use Rattle.lent_pair.specs.Lent.{keptState, pairLent}
 use Rattle.lent_pair.proofs.Both.{left-count, right-count, pair-unmoved}
 use Rattle.state_bytes.specs.Packed.{unpacked, packed}
 use Rattle.state_bytes.specs.LinkPacked.{linkPacked, unpackedLink}
-use Rattle.pair_bytes.specs.Report.{KeptBytes, keptBytes, spelledSide, pairAnswer, pairReport, pairReported}
+use Rattle.pair_bytes.specs.Report.{SideBytes, sideBytes, spelledSide, pairAnswer, pairReport, pairReported}
 
 abbrev spelledKept : List ℕ → List ℕ → Kept
 spelledKept control link = record { control = unpacked control; link = unpackedLink link }
@@ -30,8 +30,8 @@ spelled-in-range h v = rw h v
 pub number-alone : (n : ℕ) → n ≡ pairAnswer n 0 0
 number-alone n = omega arith
 
-module _ (el er : Seen) (l r : KeptBytes) (clock : Clock) {j k : Kept} (hj : j ≡ spelledKept (l .control) (l .link)) (hk : k ≡ spelledKept (r .control) (r .link)) (o : LentPairOutcome) {lm rm : Memories} {lf rf : List ℕ} (is : pairLeft o lm rm lf rf ≡ pairCalled (side el (keptState (l .memories) j) (l .frame)) (side er (keptState (r .memories) k) (r .frame)) clock) where
-  called-is : pairLeft o lm rm lf rf ≡ pairCalled (spelledSide el l) (spelledSide er r) clock
+module _ (el er : Seen) (l r : SideBytes) (clock : Clock) {j k : Kept} (hj : j ≡ spelledKept (l .control) (l .link)) (hk : k ≡ spelledKept (r .control) (r .link)) (o : LentPairOutcome) {lm rm : Memories} {lf rf : List ℕ} (is : pairLent o lm rm lf rf ≡ pairCalled (side el (keptState (l .memories) j) (l .frame)) (side er (keptState (r .memories) k) (r .frame)) clock) where
+  called-is : pairLent o lm rm lf rf ≡ pairCalled (spelledSide el l) (spelledSide er r) clock
   called-is = rw (hj, hk) at is
 
   pub counts-within : (o .counts .left ≤ 1024) × (o .counts .right ≤ 1024)
@@ -41,7 +41,7 @@ module _ (el er : Seen) (l r : KeptBytes) (clock : Clock) {j k : Kept} (hj : j �
   )
 
   -- a refusal leaves the bytes, and has no counts
-  pub turned-away : o .number ≢ 0 → pairReport (o .number) (keptBytes lm (l .control) (l .link) lf) (keptBytes rm (r .control) (r .link) rf) ≡ pairReported el l er r clock
+  pub turned-away : o .number ≢ 0 → pairReport (o .number) (sideBytes lm (l .control) (l .link) lf) (sideBytes rm (r .control) (r .link) rf) ≡ pairReported el l er r clock
   unfolding pairReported
   turned-away h =
       let so = called-is ∙ pair-unmoved _ _ clock (subst (λ (x : PairCalled). x .left .number ≢ 0) called-is h) in
@@ -67,6 +67,6 @@ module _ (el er : Seen) (l r : KeptBytes) (clock : Clock) {j k : Kept} (hj : j �
       → rl ≡ linkPacked (o .right .link)
       → {a : ℕ}
       → a ≡ pairAnswer 0 (o .counts .left) (o .counts .right)
-      → pairReport a (keptBytes lm lc ll lf) (keptBytes rm rc rl rf) ≡ pairReported el l er r clock
+      → pairReport a (sideBytes lm lc ll lf) (sideBytes rm rc rl rf) ≡ pairReported el l er r clock
   unfolding pairReported
   told z hlc hll hrc hrl ha = rw (← called-is, z, hlc, hll, hrc, hrl, ha)

@@ -11,7 +11,7 @@ ghost use Rattle.controller.specs.Memories.{before, after};
 ghost use Rattle.picture.specs.Picture.{seen};
 ghost use Rattle.state_bytes.specs.Packed.{unpacked, packed};
 ghost use Rattle.state_bytes.specs.LinkPacked.{linkPacked, unpackedLink};
-ghost use Rattle.pair_bytes.specs.Report.{keptBytes, pairAnswer, pairReport, pairReported};
+ghost use Rattle.pair_bytes.specs.Report.{sideBytes, pairAnswer, pairReport, pairReported};
 
 // What a panel keeps beside its memories, from its bytes.
 fn kept(control: &[u8; 27], link: &[u8; 10]) -> Kept
@@ -64,7 +64,7 @@ pub fn bit(
     right_full: &[u8],
     right_phase: bool,
 ) -> u32
-    ensures { λ r. ⌜ pairReport r (keptBytes (after «left_text» «left_glyph» «left_graphic») (now («left_control» .exit)) (now («left_link» .exit)) (now («left_frame» .exit))) (keptBytes (after «right_text» «right_glyph» «right_graphic») (now («right_control» .exit)) (now («right_link» .exit)) (now («right_frame» .exit))) ≡ pairReported (seen «left_half» «left_full» «left_phase») (keptBytes (before «left_text» «left_glyph» «left_graphic») (now («left_control» .entry)) (now («left_link» .entry)) (now («left_frame» .entry))) (seen «right_half» «right_full» «right_phase») (keptBytes (before «right_text» «right_glyph» «right_graphic») (now («right_control» .entry)) (now («right_link» .entry)) (now («right_frame» .entry))) (record { bit = bit; left = «left_select»; right = «right_select» }) ⌝ }
+    ensures { λ r. ⌜ pairReport r (sideBytes (after «left_text» «left_glyph» «left_graphic») (now («left_control» .exit)) (now («left_link» .exit)) (now («left_frame» .exit))) (sideBytes (after «right_text» «right_glyph» «right_graphic») (now («right_control» .exit)) (now («right_link» .exit)) (now («right_frame» .exit))) ≡ pairReported (seen «left_half» «left_full» «left_phase») (sideBytes (before «left_text» «left_glyph» «left_graphic») (now («left_control» .entry)) (now («left_link» .entry)) (now («left_frame» .entry))) (seen «right_half» «right_full» «right_phase») (sideBytes (before «right_text» «right_glyph» «right_graphic») (now («right_control» .entry)) (now («right_link» .entry)) (now («right_frame» .entry))) (record { bit = bit; left = «left_select»; right = «right_select» }) ⌝ }
 {
     let left = kept(left_control, left_link);
     let right = kept(right_control, right_link);

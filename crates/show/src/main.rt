@@ -1,16 +1,15 @@
 // Replays a capture and shows the glass: in Braille characters, in plain ones, or as a picture file.
 // What is read and written is no matter of a contract; the replay is `playback`'s and the text `frame_view`'s.
-use asked::Asked;
+use asked::files;
+use asked::saying;
+use asked::saying::failed;
+use asked::words::Asked;
 use libc::STDIN_FILENO;
 use libc::STDOUT_FILENO;
 use replaying::Ended;
 use replaying::replayed;
-use saying::failed;
 
-mod asked;
-mod files;
 mod replaying;
-mod saying;
 
 fn print(text: &[u8]) -> bool {
     let written = io::write_all(STDOUT_FILENO, text);

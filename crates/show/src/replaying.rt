@@ -1,5 +1,5 @@
 // A capture of any length, replayed part by part.
-use crate::files::fill;
+use asked::files::fill;
 use events::Made;
 use events::Numbering;
 use panel::Panel;

@@ -3,8 +3,8 @@ use Prim.Native.Nat.{_≤_, _-_}
 use lib.ListN.{length}
 use mathlib.Core.Path.{_≡_}
 use borrow.Author.Needs.{needs}
-use Rattle.show.proofs.asked.number_in.Statement.{statement}
-use Rattle.show.proofs.asked.number_in.Tie as tie
+use Rattle.asked.proofs.words.number_in.Statement.{statement}
+use Rattle.asked.proofs.words.number_in.Tie as tie
 
 abbrev Inv-loop : tie.InvT-loop
 Inv-loop text n₀ i₀ i-end n i = (i ≤ i-end) × (i-end ≡ length text)

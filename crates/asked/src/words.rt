@@ -5,7 +5,7 @@ use check::same;
 use libc::STDERR_FILENO;
 
 // Files, each by the number of the argument that names it; 0 where none does, since that is the program's own name.
-pub(crate) struct Files {
+pub struct Files {
     pub capture: usize,
     pub half: usize,
     pub full: usize,
@@ -13,7 +13,7 @@ pub(crate) struct Files {
 }
 
 // An option whose value is the next word.
-pub(crate) enum Waits {
+pub enum Waits {
     Nothing,
     Half,
     Full,
@@ -22,7 +22,7 @@ pub(crate) enum Waits {
     Records,
 }
 
-pub(crate) struct Asked {
+pub struct Asked {
     pub files: Files,
     pub records: u64,
     pub phase: bool,
@@ -213,7 +213,7 @@ impl Asked {
         }
     }
 
-    pub(crate) fn from_arguments() -> Asked {
+    pub fn from_arguments() -> Asked {
         let mut asked = Asked::nothing();
         for at in 1..os::arg_count() {
             asked = asked.next(at);

@@ -23,12 +23,12 @@ bothRefused left right number = record { left = left; right = right; number = nu
 abbrev pub keptState : Memories → Kept → State
 keptState m kept = state m (kept .control) (kept .link)
 
-abbrev pub sideLeft : State → ℕ → ℕ → List ℕ → Called
-sideLeft s number count frame = record { state = s; number = number; reply = 0; count = count; frame = frame }
+abbrev pub sideAnswer : State → ℕ → ℕ → List ℕ → Called
+sideAnswer s number count frame = record { state = s; number = number; reply = 0; count = count; frame = frame }
 
-abbrev pub pairLeft : LentPairOutcome → Memories → Memories → List ℕ → List ℕ → PairCalled
-pairLeft r leftMemories rightMemories leftFrame rightFrame =
+abbrev pub pairLent : LentPairOutcome → Memories → Memories → List ℕ → List ℕ → PairCalled
+pairLent r leftMemories rightMemories leftFrame rightFrame =
     record {
-      left = sideLeft (keptState leftMemories (r .left)) (r .number) (r .counts .left) leftFrame;
-      right = sideLeft (keptState rightMemories (r .right)) (r .number) (r .counts .right) rightFrame;
+      left = sideAnswer (keptState leftMemories (r .left)) (r .number) (r .counts .left) leftFrame;
+      right = sideAnswer (keptState rightMemories (r .right)) (r .number) (r .counts .right) rightFrame;
     }

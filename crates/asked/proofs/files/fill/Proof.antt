@@ -5,8 +5,8 @@ use native.Mathlib.Omega.{arith}
 use borrow.Author.Needs.{needs}
 use lib.ListN.{length}
 use lib.Seq.{length-take-le}
-use Rattle.show.proofs.files.fill.Statement.{statement}
-use Rattle.show.proofs.files.fill.Tie as tie
+use Rattle.asked.proofs.files.fill.Statement.{statement}
+use Rattle.asked.proofs.files.fill.Tie as tie
 
 abbrev Inv-loop : tie.InvT-loop
 Inv-loop fd buffer₀ most end done₀ buffer done = (done ≤ end) × (end ≤ length buffer) × (length buffer ≡ length buffer₀)

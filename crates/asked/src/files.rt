@@ -7,7 +7,7 @@ ghost use lib.ListN.{length};
 ghost use Rattle.io.specs.Counts.{Counts};
 
 // How many bytes came, and whether that went well; where it did not, it has been said.
-pub(crate) struct Loaded {
+pub struct Loaded {
     pub count: usize,
     pub well: bool,
 }
@@ -34,7 +34,7 @@ fn least(a: usize, b: usize) -> usize
 
 // Reads until the buffer is full or has as much as is wanted, the input ends or a read fails. A record that a failed read cut short is
 // left out: the capture does not end there.
-pub(crate) fn fill(fd: i32, buffer: &mut [u8], most: usize) -> Loaded
+pub fn fill(fd: i32, buffer: &mut [u8], most: usize) -> Loaded
     ensures { λ r. ⌜ Counts (r .count) (now (buffer .exit)) ⌝ }
 {
     let end = least(most, buffer.len());
@@ -83,7 +83,7 @@ fn load(name: &[u8], buffer: &mut [u8]) -> Loaded
 }
 
 // Reads the half font that an argument names over the one that is there; argument 0 names none. There is room for one byte more.
-pub(crate) fn half_font(at: usize, half: &mut [u8]) -> Loaded
+pub fn half_font(at: usize, half: &mut [u8]) -> Loaded
     requires { ⌜ 2049 ≡ length (now half) ⌝ }
     ensures { λ r. ⌜ Counts (r .count) (now (half .exit)) ⌝ }
 {
@@ -108,7 +108,7 @@ pub(crate) fn half_font(at: usize, half: &mut [u8]) -> Loaded
 }
 
 // Reads the full font that an argument names; it is empty where none does.
-pub(crate) fn full_font(at: usize, full: &mut [u8; 281601]) -> Loaded
+pub fn full_font(at: usize, full: &mut [u8; 281601]) -> Loaded
     ensures { λ r. ⌜ Counts (r .count) (now (full .exit)) ⌝ }
 {
     if at == 0 {
@@ -138,7 +138,7 @@ pub(crate) fn full_font(at: usize, full: &mut [u8; 281601]) -> Loaded
 }
 
 // Room for the longest full font and one byte more, which 281,601 bytes or more fill: no multiple of 32.
-pub(crate) fn full_buffer() -> [u8; 281601]
+pub fn full_buffer() -> [u8; 281601]
     ensures { λ r. ⌜ 281601 ≡ length r ⌝ }
 {
     [0; 281601]

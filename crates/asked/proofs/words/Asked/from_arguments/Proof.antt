@@ -1,8 +1,8 @@
 -- Word by word.
 use Prim.Native.Nat.{_<_, _-_, _^_}
 use borrow.Author.Needs.{needs}
-use Rattle.show.proofs.asked.Asked.from_arguments.Statement.{statement}
-use Rattle.show.proofs.asked.Asked.from_arguments.Tie as tie
+use Rattle.asked.proofs.words.Asked.from_arguments.Statement.{statement}
+use Rattle.asked.proofs.words.Asked.from_arguments.Tie as tie
 
 abbrev Inv-loop : tie.InvT-loop
 Inv-loop asked₀ at₀ at-end asked at = at-end < 2 ^ 64

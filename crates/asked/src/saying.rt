@@ -6,7 +6,7 @@ pub(crate) fn say(text: &[u8]) {
 }
 
 // A file that the system would not open, read or write: errno says why.
-pub(crate) fn failed(file: &[u8]) {
+pub fn failed(file: &[u8]) {
     say(b"show: ");
     os::fail(file);
 }
@@ -58,7 +58,7 @@ fn refusal(number: u8, time: bool) {
 }
 
 // Where a replay stopped, and why.
-pub(crate) fn stopped(file: &[u8], records: u64, number: u8, time: bool) {
+pub fn stopped(file: &[u8], records: u64, number: u8, time: bool) {
     say(b"show: ");
     say(file);
     say(b": stopped at record ");
@@ -70,7 +70,7 @@ pub(crate) fn stopped(file: &[u8], records: u64, number: u8, time: bool) {
     say(b"\n");
 }
 
-pub(crate) fn usage(fd: i32) {
+pub fn usage(fd: i32) {
     io::write_all(fd, b"usage: show [FILE] [OPTION ..]\n");
     io::write_all(
         fd,

@@ -1,9 +1,9 @@
 -- The font that is there has its 2,048 bytes.
 use borrow.Author.Needs.{needs}
 use native.Mathlib.Omega.{arith}
-use Rattle.show.proofs.Counted.{counted}
-use Rattle.show.proofs.files.half_font.Statement.{statement}
-use Rattle.show.proofs.files.half_font.Tie as tie
+use Rattle.asked.proofs.Counted.{counted}
+use Rattle.asked.proofs.files.half_font.Statement.{statement}
+use Rattle.asked.proofs.files.half_font.Tie as tie
 
 pub half-font-spec : {M : Type 1} → statement M
 half-font-spec =
