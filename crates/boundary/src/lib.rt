@@ -1,5 +1,5 @@
 // Functions for C or Rust to link: numbers and byte slices alone cross the border. A state crosses it as 2,341 bytes, and its controls
-// alone as 27 of them. Nothing is asked of a caller. Two panels on one wire are in `pair`.
+// alone as 27 of them. Nothing is asked of a caller. Two panels on one wire are in `pair.rt`.
 mod pair;
 
 use controller::controls::numbering;

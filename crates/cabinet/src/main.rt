@@ -13,11 +13,18 @@ ghost use lib.ListN.{length};
 ghost use Rattle.calls.specs.State.{Valid};
 ghost use Rattle.panel.specs.Handed.{stateOf};
 
-// The pair, how many clocks it has had, and whether the wire may go on.
+// The pair, how many clocks it has had, whether the wire may go on, and whether all could be read.
 struct Heard {
     pub pair: Pair,
     pub clocks: u64,
     pub more: bool,
+    pub well: bool,
+}
+
+// A wire heard: its clocks, and whether all could be read.
+struct Wire {
+    pub clocks: u64,
+    pub well: bool,
 }
 
 // A fresh serial panel, without time.
@@ -31,7 +38,7 @@ fn fresh() -> Panel
     })
 }
 
-// A clock. Neither blinks.
+// A clock. Both panels are lent the same half font and no full one, and neither blinks.
 fn hear_clock(
     pair: Pair,
     inputs: u8,
@@ -101,6 +108,7 @@ fn part(
         pair,
         clocks: std::num::wrapping_add_u64(before.clocks, n as u64),
         more: n > 0,
+        well: got >= 0,
     }
 }
 
@@ -109,8 +117,7 @@ fn show(name: &[u8], frame: &[u8; 1024]) -> bool {
     io::write_all(STDOUT_FILENO, name) && io::write_all(STDOUT_FILENO, &text)
 }
 
-// The whole wire; answers how many clocks it had.
-fn hear_all(left_frame: &mut [u8; 1024], right_frame: &mut [u8; 1024], half: &[u8]) -> u64 {
+fn hear_all(left_frame: &mut [u8; 1024], right_frame: &mut [u8; 1024], half: &[u8]) -> Wire {
     let mut heard = Heard {
         pair: Pair {
             left: fresh(),
@@ -118,28 +125,39 @@ fn hear_all(left_frame: &mut [u8; 1024], right_frame: &mut [u8; 1024], half: &[u
         },
         clocks: 0,
         more: true,
+        well: true,
     };
     // As many reads as there may be: no wire is so long.
     let mut reads = u64::MAX;
     while reads > 0 {
         heard = part(heard, left_frame, right_frame, half);
         if !heard.more {
-            return heard.clocks;
+            reads = 0;
+        } else {
+            reads -= 1;
         }
-        reads -= 1;
     }
-    heard.clocks
+    Wire {
+        clocks: heard.clocks,
+        well: heard.well,
+    }
+}
+
+fn count(clocks: u64) -> bool {
+    io::print_decimal(STDOUT_FILENO, clocks) && io::write_all(STDOUT_FILENO, b" clocks\n")
 }
 
 fn main() {
     let half = half_font::built_in();
     let mut left_frame = [0u8; 1024];
     let mut right_frame = [0u8; 1024];
-    let clocks = hear_all(&mut left_frame, &mut right_frame, &half[..2048]);
-    if show(b"left\n", &left_frame) && show(b"right\n", &right_frame) {
-        io::print_decimal(STDOUT_FILENO, clocks);
-        io::write_all(STDOUT_FILENO, b" clocks\n");
-    } else {
-        os::fail(b"cabinet: standard output");
+    let wire = hear_all(&mut left_frame, &mut right_frame, &half[..2048]);
+    // After a failed read, what was heard is shown all the same.
+    if wire.clocks == 0 && !wire.well {
+        return;
     }
+    if show(b"left\n", &left_frame) && show(b"right\n", &right_frame) && count(wire.clocks) {
+        return;
+    }
+    os::fail(b"cabinet: standard output");
 }

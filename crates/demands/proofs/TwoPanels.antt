@@ -3,7 +3,7 @@
 use Prim.Native.Nat.{ℕ, _≤_, _<_, _/_, _%_, _^_}
 use native.Mathlib.Omega.{arith}
 use mathlib.Core.Bool.{Bool, true, true≢false}
-use mathlib.Core.List.{List, [], _∷_, map}
+use mathlib.Core.List.{List, [], _∷_}
 use mathlib.Core.Logic.{_≢_}
 use mathlib.Core.Path.{_≡_, refl, sym, ap, subst, _∙_}
 use lib.Dec.{eqb}
@@ -28,8 +28,9 @@ use Rattle.state_bytes.specs.LinkPacked.{linkPacked, unpackedLink}
 use Rattle.state_bytes.proofs.PackedUnpacked.{unpacked-packed}
 use Rattle.state_bytes.proofs.LinkRead.{unpacked-link-packed}
 use Rattle.demands.specs.Wires.{answers}
+use Rattle.demands.specs.Captures.{sumOfCounts}
 use Rattle.demands.specs.Demand3.{pictureOf, everNamed}
-use Rattle.demands.specs.TwoPanels.{Which, theLeft, theRight, of, ownEvent, ownEvents, leaves, nextSide, clockAnswers, afterClocks, aloneCalled, aloneAfter, aloneAnswers, sumOfCounts, EachClockAsAlone, EndsAsAlone, AnswersAsAlone, CountsAsAlone, NeverTouched, RefusedTouchesNeither, EachPictureStands, EachNamedBytesShown, EachCountIsNumber, EachAtMost64, AnswerIsRead, BytesKeepThePair, TwoPanels}
+use Rattle.demands.specs.TwoPanels.{Which, theLeft, theRight, of, ownEvent, ownEvents, leaves, nextSide, clockAnswers, afterClocks, aloneCalled, aloneAfter, aloneAnswers, EachClockAsAlone, EndsAsAlone, AnswersAsAlone, CountsAsAlone, NeverTouched, RefusedTouchesNeither, EachPictureStands, EachNamedBytesShown, EachCountIsNumber, EachAtMost64, AnswerIsRead, BytesKeepThePair, TwoPanels}
 use Rattle.demands.proofs.Sequences.{after-shows}
 use Rattle.demands.proofs.Demand3.{demand-3}
 use Rattle.demands.proofs.Pairs.{left-number, refusal-small}

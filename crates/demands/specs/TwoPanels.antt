@@ -19,8 +19,9 @@ use Rattle.calls.specs.State.{Valid}
 use Rattle.calls.specs.Calls.{Called, Stands, takenOn, reaching, called, afterCalls}
 use Rattle.lent_pair.specs.declared.Clock.{Clock}
 use Rattle.lent_pair.specs.Pair.{Side, side, pairRefusal, PairCalled, pairCalled}
-use Rattle.pair_bytes.specs.Report.{SideBytes, spelledSide, pairAnswer, pairReported}
-use Rattle.demands.specs.Wires.{answers, sum, isData}
+use Rattle.pair_bytes.specs.Report.{SideBytes, spelledSide, pairReported}
+use Rattle.demands.specs.Wires.{answers, isData}
+use Rattle.demands.specs.Captures.{sumOfCounts}
 use Rattle.demands.specs.Demand3.{pictureOf, namedBy, everNamed}
 
 -- either of two
@@ -74,9 +75,6 @@ aloneAfter x events = afterCalls (x .seen) (x .state) (x .frame) events
 
 abbrev pub aloneAnswers : Side → List Event → List Called
 aloneAnswers x events = answers (x .seen) (x .state) (x .frame) events
-
-abbrev pub sumOfCounts : List Called → ℕ
-sumOfCounts ks = sum (map (λ k. k .count) ks)
 
 -- where nothing is refused, a clock is to each panel its own event, and leaves and answers what that does alone
 abbrev pub EachClockAsAlone : Type 0

@@ -23,6 +23,7 @@ bothRefused left right number = record { left = left; right = right; number = nu
 abbrev pub keptState : Memories → Kept → State
 keptState m kept = state m (kept .control) (kept .link)
 
+-- the pair's one number, no reply, and the side's own count
 abbrev pub sideAnswer : State → ℕ → ℕ → List ℕ → Called
 sideAnswer s number count frame = record { state = s; number = number; reply = 0; count = count; frame = frame }
 

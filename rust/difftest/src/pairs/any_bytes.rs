@@ -4,7 +4,7 @@ use super::Short;
 use crate::case::Case;
 use crate::compare::Tally;
 use crate::random::Random;
-use model::FRAME_LENGTH;
+use model::{FRAME_LENGTH, HALF_FONT_LENGTH};
 use proved::{Clock, Memories, PairOutcome, LINK_AT, STATE};
 
 /// Some clocks to two panels of any bytes, whose frames are their pictures; answers what is wrong, if anything is.
@@ -19,9 +19,13 @@ pub fn any_bytes(random: &mut Random, tally: &mut Tally) -> Option<String> {
             Short(0)
         };
         let before = kept.clone();
+        let number = refusal(&before, cases, short);
         let said = clock(&mut kept, cases, any_clock(random), short);
         tally.bits += 1;
         tally.stops += u64::from(said.number != 0);
+        if said.number != number {
+            return Some(format!("clock {at}: {said:?} where the number is {number}"));
+        }
         if let Some(what) = wrong(said, &before, &kept) {
             return Some(format!("clock {at}: {what}"));
         }
@@ -31,6 +35,23 @@ pub fn any_bytes(random: &mut Random, tally: &mut Tally) -> Option<String> {
         let wrong = kept[side].not_drawn(cases[side]);
         wrong.map(|what| format!("at the end, {}: {what}", NAMES[side]))
     })
+}
+
+/// The number that the clock is refused with: of what is a byte short, the left panel's first; 5 where a link's first byte is even.
+fn refusal(kept: &[Kept; 2], cases: [&Case; 2], short: Short) -> u8 {
+    let of_side = |side: usize| {
+        let mut frame = kept[side].frame.clone();
+        let lent = short.lent(side, cases[side], &mut frame);
+        match (lent.frame.len(), lent.half.len(), lent.full.len()) {
+            (FRAME_LENGTH, HALF_FONT_LENGTH, full) if full % 32 == 0 => 0,
+            (FRAME_LENGTH, HALF_FONT_LENGTH, _) => 3,
+            (FRAME_LENGTH, _, _) => 2,
+            _ => 1,
+        }
+    };
+    let parallel = kept.iter().any(|kept| kept.state[LINK_AT] % 2 == 0);
+    let numbers = [of_side(0), of_side(1), 5 * u8::from(parallel)];
+    numbers.into_iter().find(|&number| number != 0).unwrap_or(0)
 }
 
 /// A panel of any bytes, most often serial, with its picture.
@@ -62,7 +83,7 @@ fn any_clock(random: &mut Random) -> Clock {
 
 fn wrong(said: PairOutcome, before: &[Kept; 2], after: &[Kept; 2]) -> Option<String> {
     let counts = [said.left, said.right].map(usize::from);
-    if said.number > 5 || counts.iter().any(|&count| count > FRAME_LENGTH) {
+    if counts.iter().any(|&count| count > FRAME_LENGTH) {
         return Some(format!("{said:?} is no answer"));
     }
     if said.number != 0 && counts != [0, 0] {
