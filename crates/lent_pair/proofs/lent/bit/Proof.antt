@@ -14,10 +14,10 @@ both-called c =
     let to-left = to-right .before in
     let at-test = to-left .before in
     let at-number = at-test .before in
-    let at-right = at-number .before in
-    let at-left = at-right .before in
+    let right-serial = at-number .before in
+    let left-serial = right-serial .before in
     let is = c .both .ensures in
-    (accepts-lent _ _ _ (at-left .is-serial .ensures) (at-right .is-serial2 .ensures) (at-number .first-refusal .ensures) (at-test .if1 .left) (to-left .comes-to .ensures) (to-right .comes-to2 .ensures) (on-left .call .ensures .0) (on-right .call2 .ensures .0) is, both-in-range (ap (λ (o : LentPairOutcome). o .left .control) is) (ap (λ (o : LentPairOutcome). o .right .control) is) (on-left .call .ensures .1) (on-right .call2 .ensures .1))
+    (accepts-lent _ _ _ (left-serial .is-serial .ensures) (right-serial .is-serial2 .ensures) (at-number .first-refusal .ensures) (at-test .if1 .left) (to-left .comes-to .ensures) (to-right .comes-to2 .ensures) (on-left .call .ensures .0) (on-right .call2 .ensures .0) is, both-in-range (ap (λ (o : LentPairOutcome). o .left .control) is) (ap (λ (o : LentPairOutcome). o .right .control) is) (on-left .call .ensures .1) (on-right .call2 .ensures .1))
 
 pub bit-spec : {M : Type 1} → statement M
 bit-spec =
