@@ -13,8 +13,8 @@ use Rattle.links.specs.Idle.{isSerial}
 use Rattle.picture.specs.Picture.{Seen}
 use Rattle.picture.specs.Refusals.{lentRefusal}
 use Rattle.lent_pair.specs.declared.Clock.{Clock}
-use Rattle.lent_pair.specs.Pair.{Side, refusedSide, pairRefusal, PairCalled, pairCalled}
-use Rattle.lent_pair.proofs.Both.{both-ready, takes, pair-unmoved}
+use Rattle.lent_pair.specs.Pair.{Side, refusedSide, pairRefusal}
+use Rattle.lent_pair.proofs.Both.{refused-clock, pair-numbers, pair-unmoved}
 use Rattle.pair_bytes.specs.Report.{spelledSide, pairReport, pairReported}
 use Rattle.pair_bytes.proofs.Told.{number-alone}
 use Rattle.demands.specs.Demand1.{TableSays, frameLength, halfFontLength, fullFontLength, wantOfTime, otherLink, allGood, BuffersSay, OneNumber, PairSays, leftBuffers, rightBuffers, notBothSerial, bothGood, PairRefuses, ExportedPairRefuses}
@@ -91,26 +91,12 @@ module _ (l r : Side) where
   refusal-small = pair-small (pairRefusal l r) pair-says
 
   module _ (clock : Clock) where
-    pub left-number : pairCalled l r clock .left .number ≡ pairRefusal l r
-    unfolding pairCalled
-    left-number =
-        either-told (λ (k : PairCalled). k .left .number ≡ pairRefusal l r) (eqb (pairRefusal l r) 0)
-        (λ t. takes l (both-ready l r (eqb-true _ 0 t) .left) (clock .left) (clock .bit) .number ∙ sym (eqb-true _ 0 t))
-        (λ t. refl)
-
-    right-number : pairCalled l r clock .right .number ≡ pairRefusal l r
-    unfolding pairCalled
-    right-number =
-        either-told (λ (k : PairCalled). k .right .number ≡ pairRefusal l r) (eqb (pairRefusal l r) 0)
-        (λ t. takes r (both-ready l r (eqb-true _ 0 t) .right) (clock .right) (clock .bit) .number ∙ sym (eqb-true _ 0 t))
-        (λ t. refl)
-
     pub pair-refuses : PairRefuses l r clock
     pair-refuses =
         record {
-          says = rw left-number pair-says;
-          saysBoth = right-number ∙ sym left-number;
-          keeps = λ h. pair-unmoved l r clock h ∙ ap (λ (n : ℕ). record { left = refusedSide l n; right = refusedSide r n }) (sym left-number);
+          says = rw (pair-numbers l r clock .0) pair-says;
+          saysBoth = pair-numbers l r clock .1 ∙ sym (pair-numbers l r clock .0);
+          keeps = λ h. pair-unmoved l r clock h ∙ ap (λ (n : ℕ). record { left = refusedSide l n; right = refusedSide r n }) (sym (pair-numbers l r clock .0));
         }
 
 pub exported-pair-refuses : ExportedPairRefuses
@@ -119,7 +105,7 @@ exported-pair-refuses el er l r clock n says z =
     let left = spelledSide el l in
     let right = spelledSide er r in
     rw (
-      pair-unmoved left right clock (λ h. z (pair-number left right n says ∙ sym (left-number left right clock) ∙ h)),
+      refused-clock left right clock (λ h. z (pair-number left right n says ∙ h)),
       ← pair-number left right n says,
       ne-eqb n 0 z,
     )

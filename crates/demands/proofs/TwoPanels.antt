@@ -21,8 +21,8 @@ use Rattle.calls.specs.State.{Valid}
 use Rattle.calls.specs.Calls.{Called, Stands, afterCalls}
 use Rattle.calls.proofs.Kept.{called-valid, still-fits}
 use Rattle.lent_pair.specs.declared.Clock.{Clock}
-use Rattle.lent_pair.specs.Pair.{Side, comesTo, toLeft, toRight, calledSide, refusedSide, pairRefusal, PairCalled, pairCalled}
-use Rattle.lent_pair.proofs.Both.{Ready, BothReady, both-ready, ready-both, takes, left-count}
+use Rattle.lent_pair.specs.Pair.{Side, comesTo, calledSide, refusedSide, pairRefusal, PairCalled, pairCalled}
+use Rattle.lent_pair.proofs.Both.{Ready, BothReady, both-ready, ready-both, takes, counts-most, refused-clock, taken-clock, pair-numbers}
 use Rattle.pair_bytes.specs.Report.{SideBytes, spelledSide, bytesAfter, pairAnswer, pairReported}
 use Rattle.state_bytes.specs.LinkPacked.{linkPacked, unpackedLink}
 use Rattle.state_bytes.proofs.PackedUnpacked.{unpacked-packed}
@@ -33,16 +33,7 @@ use Rattle.demands.specs.Demand3.{pictureOf, everNamed}
 use Rattle.demands.specs.TwoPanels.{Which, theLeft, theRight, of, ownEvent, ownEvents, leaves, nextSide, clockAnswers, afterClocks, aloneCalled, aloneAfter, aloneAnswers, EachClockAsAlone, EndsAsAlone, AnswersAsAlone, CountsAsAlone, NeverTouched, RefusedTouchesNeither, EachPictureStands, EachNamedBytesShown, EachCountIsNumber, EachAtMost64, AnswerIsRead, BytesKeepThePair, TwoPanels}
 use Rattle.demands.proofs.Sequences.{after-shows}
 use Rattle.demands.proofs.Demand3.{demand-3}
-use Rattle.demands.proofs.Pairs.{left-number, refusal-small}
-
--- a clock that is refused, and one that is not
-refused-clock : (l r : Side) (clock : Clock) → pairRefusal l r ≢ 0 → pairCalled l r clock ≡ record { left = refusedSide l (pairRefusal l r); right = refusedSide r (pairRefusal l r) }
-unfolding pairCalled
-refused-clock l r clock h = rw (ne-eqb _ 0 h)
-
-taken-clock : (l r : Side) (clock : Clock) → pairRefusal l r ≡ 0 → pairCalled l r clock ≡ record { left = calledSide l (toLeft clock); right = calledSide r (toRight clock) }
-unfolding pairCalled
-taken-clock l r clock h = rw (eq-eqb _ 0 h)
+use Rattle.demands.proofs.Pairs.{refusal-small}
 
 -- the next clock finds the sides ready
 still-ready : (x : Side) (select bit : Bool) (k : Called) → Ready x → k ≡ calledSide x (comesTo select bit) → Ready (nextSide x k)
@@ -161,7 +152,7 @@ answer-is-read el er l r clock =
     let left = spelledSide el l in
     let right = spelledSide er r in
     let k = pairCalled left right clock in
-    answer-read (k .left .number) (k .left .count) (k .right .count) (rw (left-number left right clock) (refusal-small left right)) (left-count left right clock)
+    answer-read (k .left .number) (k .left .count) (k .right .count) (rw (pair-numbers left right clock .0) (refusal-small left right)) (counts-most left right clock .0)
 
 -- a panel kept as bytes is after a call what its bytes spell then: a refusal leaves them
 refused-kept :

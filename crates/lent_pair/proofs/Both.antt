@@ -6,7 +6,7 @@ use mathlib.Core.Logic.{_≢_}
 use mathlib.Core.Path.{_≡_, refl, sym, ap, _∙_}
 use native.Mathlib.Omega.{arith}
 use lib.Dec.{eqb}
-use borrow.Author.Tests.{eqb-true, eqb-false, ne-eqb}
+use borrow.Author.Tests.{eqb-true, eqb-false, eq-eqb, ne-eqb}
 use Rattle.base.proofs.Choice.{by-test, either, either-told}
 use Rattle.events.specs.declared.Event.{Event}
 use Rattle.links.specs.Idle.{isSerial}
@@ -139,26 +139,43 @@ pub handed-valid :
 handed-valid l r clock k is vl vr = rw is (pair-valid l r clock vl vr)
 
 -- no count passes that of a frame's bytes
-pub left-count : (l r : Side) (clock : Clock) → pairCalled l r clock .left .count ≤ 1024
+pub counts-most : (l r : Side) (clock : Clock) → (pairCalled l r clock .left .count ≤ 1024) × (pairCalled l r clock .right .count ≤ 1024)
 unfolding pairCalled
-left-count l r clock =
-    either (λ (k : PairCalled). k .left .count ≤ 1024) (eqb (pairRefusal l r) 0)
-    (called-count (l .seen) (l .state) (l .frame) (toLeft clock)) (omega arith)
+counts-most l r clock =
+    either (λ (k : PairCalled). (k .left .count ≤ 1024) × (k .right .count ≤ 1024)) (eqb (pairRefusal l r) 0)
+    (called-count (l .seen) (l .state) (l .frame) (toLeft clock), called-count (r .seen) (r .state) (r .frame) (toRight clock))
+    (omega arith, omega arith)
 
-pub right-count : (l r : Side) (clock : Clock) → pairCalled l r clock .right .count ≤ 1024
+-- a clock that is refused, and one that is not
+pub refused-clock :
+    (l r : Side) (clock : Clock)
+    → pairRefusal l r ≢ 0
+    → pairCalled l r clock ≡ record { left = refusedSide l (pairRefusal l r); right = refusedSide r (pairRefusal l r) }
 unfolding pairCalled
-right-count l r clock =
-    either (λ (k : PairCalled). k .right .count ≤ 1024) (eqb (pairRefusal l r) 0)
-    (called-count (r .seen) (r .state) (r .frame) (toRight clock)) (omega arith)
+refused-clock l r clock h = rw (ne-eqb _ 0 h)
 
--- a call with a refusal number has changed nothing
+pub taken-clock :
+    (l r : Side) (clock : Clock)
+    → pairRefusal l r ≡ 0
+    → pairCalled l r clock ≡ record { left = calledSide l (toLeft clock); right = calledSide r (toRight clock) }
+unfolding pairCalled
+taken-clock l r clock h = rw (eq-eqb _ 0 h)
+
+-- either way both sides have the pair's number
+pub pair-numbers :
+    (l r : Side) (clock : Clock)
+    → (pairCalled l r clock .left .number ≡ pairRefusal l r) × (pairCalled l r clock .right .number ≡ pairRefusal l r)
+unfolding pairCalled
+pair-numbers l r clock =
+    either-told (λ (k : PairCalled). (k .left .number ≡ pairRefusal l r) × (k .right .number ≡ pairRefusal l r)) (eqb (pairRefusal l r) 0)
+    (λ t. let none = eqb-true _ 0 t in
+    let ready = both-ready l r none in
+    (takes l (ready .left) (clock .left) (clock .bit) .number ∙ sym none, takes r (ready .right) (clock .right) (clock .bit) .number ∙ sym none))
+    (λ t. (refl, refl))
+
+-- so a call with a refusal number has changed nothing
 pub pair-unmoved :
     (l r : Side) (clock : Clock)
     → pairCalled l r clock .left .number ≢ 0
     → pairCalled l r clock ≡ record { left = refusedSide l (pairRefusal l r); right = refusedSide r (pairRefusal l r) }
-unfolding pairCalled
-pair-unmoved l r clock =
-    either-told (λ (k : PairCalled). k .left .number ≢ 0 → k ≡ record { left = refusedSide l (pairRefusal l r); right = refusedSide r (pairRefusal l r) })
-    (eqb (pairRefusal l r) 0)
-    (λ t h. absurd (h (takes l (both-ready l r (eqb-true _ 0 t) .left) (clock .left) (clock .bit) .number)))
-    (λ t h. refl)
+pair-unmoved l r clock h = refused-clock l r clock (λ z. h (pair-numbers l r clock .0 ∙ z))

@@ -2,7 +2,7 @@
 use Prim.Native.Nat.{ℕ, _≤_}
 use mathlib.Core.List.{List}
 use mathlib.Core.Logic.{_≢_}
-use mathlib.Core.Path.{_≡_, ap, subst, _∙_}
+use mathlib.Core.Path.{_≡_, ap, sym, subst, _∙_}
 use native.Mathlib.Omega.{arith}
 use borrow.Author.Tests.{ne-eqb}
 use Rattle.controller.specs.declared.Control.{Control}
@@ -15,7 +15,7 @@ use Rattle.lent_pair.specs.declared.Kept.{Kept}
 use Rattle.lent_pair.specs.declared.LentPairOutcome.{LentPairOutcome}
 use Rattle.lent_pair.specs.Pair.{side, PairCalled, pairCalled}
 use Rattle.lent_pair.specs.Lent.{keptState, pairLent}
-use Rattle.lent_pair.proofs.Both.{left-count, right-count, pair-unmoved}
+use Rattle.lent_pair.proofs.Both.{counts-most, pair-unmoved}
 use Rattle.state_bytes.specs.Packed.{unpacked, packed}
 use Rattle.state_bytes.specs.LinkPacked.{linkPacked, unpackedLink}
 use Rattle.pair_bytes.specs.Report.{SideBytes, sideBytes, spelledSide, pairAnswer, pairReport, pairReported}
@@ -35,10 +35,7 @@ module _ (el er : Seen) (l r : SideBytes) (clock : Clock) {j k : Kept} (hj : j �
   called-is = rw (hj, hk) at is
 
   pub counts-within : (o .counts .left ≤ 1024) × (o .counts .right ≤ 1024)
-  counts-within = (
-    rw (ap (λ (x : PairCalled). x .left .count) is) (left-count _ _ clock),
-    rw (ap (λ (x : PairCalled). x .right .count) is) (right-count _ _ clock),
-  )
+  counts-within = subst (λ (x : PairCalled). (x .left .count ≤ 1024) × (x .right .count ≤ 1024)) (sym is) (counts-most _ _ clock)
 
   -- a refusal leaves the bytes, and has no counts
   pub turned-away : o .number ≢ 0 → pairReport (o .number) (sideBytes lm (l .control) (l .link) lf) (sideBytes rm (r .control) (r .link) rf) ≡ pairReported el l er r clock
