@@ -4,4 +4,5 @@ mod afresh;
 mod whole;
 
 pub use afresh::draw;
+pub use whole::band_end;
 pub use whole::paint_whole;

@@ -52,6 +52,15 @@ half-odd j =
     (λ t. let k : j % 2 ≡ 1 = eqb-true (j % 2) 1 t in rw (t, k))
     (λ t. let n : j % 2 ≢ 1 = eqb-false (j % 2) 1 t in let k : j % 2 ≡ 0 = omega arith in rw (t, k))
 
+-- two columns side by side, each given by what stands on its rows
+pub columns-laid : (to : ℕ) (f : List ℕ) (byte : ℕ → Bool → ℕ) → painted (between to (to + 32) everywhere) (λ k. beside (upto 16 (λ y. byte y false)) (upto 16 (λ y. byte y true)) (k - to)) f
+    ≡ painted (between to (to + 32) everywhere) (λ k. byte ((k - to) / 2) (odd (k - to))) f
+columns-laid to f byte =
+    stretch-cong to 32 (beside (upto 16 (λ y. byte y false)) (upto 16 (λ y. byte y true))) (λ j. byte (j / 2) (odd j)) f
+    (λ j k. by-test (odd j)
+    (λ e. rw e (getD-upto 16 (λ y. byte y true) (j / 2) (omega arith)))
+    (λ e. rw e (getD-upto 16 (λ y. byte y false) (j / 2) (omega arith))))
+
 module _ (halves fulls glyph : List ℕ) (to : ℕ) (f : List ℕ) where
   pub image-laid : (i : ℕ) → painted (between to (to + 32) everywhere) (λ k. getD glyph (32 * i + (k - to)) 0) f
       ≡ painted (between to (to + 32) everywhere) (λ k. tileDots halves fulls glyph (Image i) (k - to)) f
@@ -68,11 +77,7 @@ module _ (halves fulls glyph : List ℕ) (to : ℕ) (f : List ℕ) where
   pub halves-laid : (h l : ℕ) → painted (between to (to + 32) everywhere) (λ k. beside (upto 16 (halfByte halves h)) (upto 16 (halfByte halves l)) (k - to)) f
       ≡ painted (between to (to + 32) everywhere) (λ k. tileDots halves fulls glyph (Halves h l) (k - to)) f
   unfolding dotsOf
-  halves-laid h l =
-      stretch-cong to 32 (beside (upto 16 (halfByte halves h)) (upto 16 (halfByte halves l))) (tileDots halves fulls glyph (Halves h l)) f
-      (λ j k. by-test (odd j)
-      (λ e. rw e (getD-upto 16 (halfByte halves l) (j / 2) (omega arith)))
-      (λ e. rw e (getD-upto 16 (halfByte halves h) (j / 2) (omega arith))))
+  halves-laid h l = columns-laid to f (dotsOf halves fulls glyph (Halves h l))
 
 -- a block of zeros
 pub zeros-at : (j : ℕ) → j < 16 → getD (replicate 16 zero) j zero ≡ zero

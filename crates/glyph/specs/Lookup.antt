@@ -1,5 +1,5 @@
--- Document 01, "The picture": what a text word shows. This layer knows that a code has a number, and the full font's length; the numbering is
--- handed on.
+-- Document 01, "The picture", and request K6: what a text word shows. This layer knows that a code has a number, and the full font's length;
+-- the numbering is handed on.
 use Prim.Native.Nat.{ℕ, _+_, _*_}
 use lib.Dec.{leb}
 use Rattle.base.specs.Choice.{if_then_else_}
@@ -10,13 +10,14 @@ use Rattle.controller.specs.declared.Image.the-variants as found
 use Rattle.numbering.specs.declared.Code.{Code}
 use Rattle.numbering.specs.declared.Code.the-variants.{Unnumbered, Number}
 use Rattle.glyph.specs.declared.Content.{Content}
-use Rattle.glyph.specs.declared.Content.the-variants.{Image, Full, Halves, Blank}
+use Rattle.glyph.specs.declared.Content.the-variants.{Image, Full, Halves, Missing, Blank}
 use Rattle.numbering.specs.Numbering.{numberOf}
 
--- a full glyph has 32 bytes of the font: inside the lent font, else blank
+-- three things told apart: found, where the 32 bytes of the glyph lie inside the lent font; blank by the rules, where the code has no number;
+-- and missing, where the code is allowed but not in the lent font
 unfoldable pub fullOf : Code → ℕ → Content
 fullOf Unnumbered length = Blank
-fullOf (Number i) length = if leb (32 * i + 32) length then Full i else Blank
+fullOf (Number i) length = if leb (32 * i + 32) length then Full i else Missing
 
 -- high byte A1h or more: full glyph; otherwise each byte by itself
 unfoldable pub fontOf : Numbering → ℕ → ℕ → ℕ → Content

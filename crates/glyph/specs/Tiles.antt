@@ -8,7 +8,7 @@ use lib.ListN.{getD}
 use lib.Dec.{eqb}
 use Rattle.base.specs.Choice.{if_then_else_}
 use Rattle.glyph.specs.declared.Content.{Content}
-use Rattle.glyph.specs.declared.Content.the-variants.{Image, Full, Halves, Blank}
+use Rattle.glyph.specs.declared.Content.the-variants.{Image, Full, Halves, Missing, Blank}
 use Rattle.glyph.specs.Dots.{dotsOf}
 
 -- what is shown lies inside glyph memory, or inside a full font of `length` bytes
@@ -16,6 +16,7 @@ abbrev pub Inside : Content → ℕ → Type 0
 Inside (Image i) length = i < 4
 Inside (Full i) length = 32 * i + 32 ≤ length
 Inside (Halves h l) length = Unit {0}
+Inside Missing length = Unit {0}
 Inside Blank length = Unit {0}
 
 -- the right byte of a row has an odd place

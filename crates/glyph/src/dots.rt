@@ -4,7 +4,7 @@ ghost use mathlib.Core.Path.{_≡_};
 ghost use Prim.Native.Nat.{_+_, _*_, _<_, _≤_};
 ghost use lib.ListN.{length};
 ghost use Rattle.base.specs.Choice.{if_then_else_};
-ghost use Rattle.glyph.specs.Dots.{imageByte, fullByte, halfByte, dotsOf};
+ghost use Rattle.glyph.specs.Dots.{imageByte, fullByte, halfByte, boxByte, dotsOf};
 ghost use Rattle.glyph.specs.Tiles.{Inside};
 
 // Row y of image i.
@@ -47,6 +47,19 @@ fn code_of(high: u8, low: u8, right: bool) -> u8
     if right { low } else { high }
 }
 
+// Row y of the box.
+fn box_byte(y: usize, right: bool) -> u8
+    ensures { λ r. ⌜ r ≡ boxByte y right ⌝ }
+{
+    if y == 0 {
+        return 0xFF;
+    }
+    if y == 15 {
+        return 0xFF;
+    }
+    if right { 0x01 } else { 0x80 }
+}
+
 // The left or the right byte of glyph row y of what a cell shows.
 pub fn dot_byte(
     content: Content,
@@ -63,6 +76,7 @@ pub fn dot_byte(
         Content::Image(i) => image_byte(i, y, right, glyph),
         Content::Full(n) => full_byte(n, y, right, full),
         Content::Halves { high, low } => half_byte(code_of(high, low, right), y, half),
+        Content::Missing => box_byte(y, right),
         Content::Blank => 0,
     }
 }

@@ -1,4 +1,4 @@
-// What a cell shows: an image, a full glyph, two halves, or nothing.
+// What a cell shows: an image, a full glyph or the box for one that is missing, two halves, or nothing.
 use crate::Content;
 use controller::Image;
 use controller::named::image;
@@ -8,7 +8,7 @@ use numbering::number;
 ghost use mathlib.Core.Path.{_≡_};
 ghost use Rattle.glyph.specs.Lookup.{fullOf, fontOf, contentOf};
 
-// A numbered code shows its glyph where that lies whole inside a full font of `length` bytes.
+// A numbered code shows its glyph where that lies whole inside a full font of `length` bytes; else its glyph is missing.
 fn full_glyph(code: Code, length: usize) -> Content
     ensures { λ r. ⌜ r ≡ fullOf code length ⌝ }
 {
@@ -17,7 +17,7 @@ fn full_glyph(code: Code, length: usize) -> Content
             if 32 * (n as usize) + 32 <= length {
                 Content::Full(n)
             } else {
-                Content::Blank
+                Content::Missing
             }
         }
         Code::Unnumbered => Content::Blank,

@@ -3,12 +3,12 @@
 use crate::Content;
 ghost use mathlib.Core.Path.{_≡_};
 ghost use mathlib.Core.Bool.{_&&_};
-ghost use Prim.Native.Nat.{_+_, _*_, _-_, _<_, _≤_};
+ghost use Prim.Native.Nat.{_+_, _*_, _-_, _/_, _<_, _≤_};
 ghost use lib.ListN.{length, getD};
 ghost use Rattle.base.specs.Lists.{upto};
 ghost use Rattle.base.specs.Painting.{painted, everywhere, between};
-ghost use Rattle.glyph.specs.Dots.{hasHalf, halfByte};
-ghost use Rattle.glyph.specs.Tiles.{Inside, tileDots, beside};
+ghost use Rattle.glyph.specs.Dots.{hasHalf, halfByte, boxColumn, boxByte};
+ghost use Rattle.glyph.specs.Tiles.{Inside, tileDots, odd, beside};
 ghost use Rattle.glyph.specs.declared.Content.the-variants.{Halves, Blank};
 
 // Sixteen bytes that lie together.
@@ -104,6 +104,23 @@ fn lay_halves(high: u8, low: u8, tiles: &mut [u8], to: usize, half: &[u8])
     store_beside(tiles, to, left, right);
 }
 
+// A column of the box, for a glyph that is missing: its first row and its last, and between them the edge at its side.
+fn box_column(edge: u8) -> [u8; 16]
+    ensures { λ r. ⌜ r ≡ upto 16 (boxColumn edge) ⌝ }
+{
+    let mut column = [edge; 16];
+    column[0] = 0xFF;
+    column[15] = 0xFF;
+    column
+}
+
+fn lay_box(tiles: &mut [u8], to: usize)
+    requires { ⌜ to + 32 ≤ length (now tiles) ⌝ }
+    ensures { λ _. ⌜ now (tiles .exit) ≡ painted (between to (to + 32) everywhere) (λ i. boxByte ((i - to) / 2) (odd (i - to))) (now (tiles .entry)) ⌝ }
+{
+    store_beside(tiles, to, box_column(0x80), box_column(0x01));
+}
+
 fn lay_blank(tiles: &mut [u8], to: usize)
     requires { ⌜ to + 32 ≤ length (now tiles) ⌝ }
     ensures { λ _. ⌜ now (tiles .exit) ≡ painted (between to (to + 32) everywhere) (λ i. 0) (now (tiles .entry)) ⌝ }
@@ -128,6 +145,7 @@ pub fn lay(
         Content::Image(i) => lay_block(tiles, to, glyph, 32 * (i as usize)),
         Content::Full(n) => lay_block(tiles, to, full, 32 * (n as usize)),
         Content::Halves { high, low } => lay_halves(high, low, tiles, to, half),
+        Content::Missing => lay_box(tiles, to),
         Content::Blank => lay_blank(tiles, to),
     }
 }

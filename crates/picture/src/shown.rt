@@ -18,7 +18,7 @@ pub fn shown_row(view: View, row: u32) -> u32
 }
 
 // The text word of a cell there.
-pub(crate) fn shown_word(view: View, row: u32, cell: u32) -> u32
+pub fn shown_word(view: View, row: u32, cell: u32) -> u32
     requires { ⌜ (row < 32) × (cell < 16) ⌝ }
     ensures within { λ r. ⌜ r < 64 ⌝ }
     ensures { λ r. ⌜ r ≡ shownWord view row cell ⌝ }

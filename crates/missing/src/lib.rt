@@ -1,0 +1,33 @@
+// Which codes of the present screen have no glyph in the lent font: the box that request K6 shows for each does not say which one to draw.
+use controller::View;
+use glyph::Content;
+use picture::shown::shown_word;
+use picture::shown::word_content;
+ghost use mathlib.Core.Path.{_≡_};
+ghost use Prim.Native.Nat.{_<_};
+ghost use Rattle.missing.specs.Missing.{missingAt};
+
+// The code of two bytes whose glyph is missing, or none.
+pub enum Missing {
+    Nothing,
+    Code { lead: u8, trail: u8 },
+}
+
+// What is missing in a cell of a row of the glass, with a full font of `length` bytes.
+pub fn missing_at(view: View, row: u32, cell: u32, text: &[u8; 128], length: usize) -> Missing
+    requires { ⌜ (row < 32) × (cell < 16) ⌝ }
+    ensures { λ r. ⌜ r ≡ missingAt view length (now (text .entry)) row cell ⌝ }
+{
+    let word = shown_word(view, row, cell);
+    let numbering = view.numbering;
+    match word_content(text, numbering, word, length) {
+        Content::Missing => {
+            let at = 2 * (word as usize);
+            Missing::Code {
+                lead: text[at],
+                trail: text[at + 1],
+            }
+        }
+        _ => Missing::Nothing,
+    }
+}
