@@ -98,5 +98,9 @@ pub fn usage(fd: i32) {
         fd,
         b"  --pbm FILE    writes a picture file (PBM), and prints nothing\n",
     );
+    io::write_all(
+        fd,
+        b"  --missing     says which codes have no glyph in the full font, and where\n",
+    );
     io::write_all(fd, b"  --help        prints this\n");
 }

@@ -28,6 +28,7 @@ pub struct Asked {
     pub phase: bool,
     pub time: bool,
     pub plain: bool,
+    pub missing: bool,
     pub help: bool,
     // Whether something was wrong, which has been said.
     pub refused: bool,
@@ -74,6 +75,7 @@ impl Asked {
             phase: false,
             time: false,
             plain: false,
+            missing: false,
             help: false,
             refused: false,
             waits: Waits::Nothing,
@@ -88,6 +90,7 @@ impl Asked {
             phase: self.phase,
             time: self.time,
             plain: self.plain,
+            missing: self.missing,
             help: self.help,
             refused: self.refused,
             waits,
@@ -125,6 +128,10 @@ impl Asked {
         }
         if same(word, b"--plain") {
             self.plain = true;
+            return self;
+        }
+        if same(word, b"--missing") {
+            self.missing = true;
             return self;
         }
         if same(word, b"--help") {

@@ -12,6 +12,7 @@ pub mod Carried
 pub mod Lost
 pub mod Direction
 pub mod Numbered
+pub mod Missing
 pub mod WithoutTime
 pub mod Waiting
 pub mod Waits

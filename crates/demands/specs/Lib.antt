@@ -12,5 +12,6 @@ pub mod Waiting
 pub mod Demand3
 pub mod TwoPanels
 pub mod Numbered
+pub mod Missing
 pub mod Demand2
 pub mod Tight

@@ -9,6 +9,7 @@ use libc::STDOUT_FILENO;
 use replaying::Ended;
 use replaying::replayed;
 
+mod listing;
 mod replaying;
 
 fn print(text: &[u8]) -> bool {
@@ -101,6 +102,11 @@ fn show(asked: Asked, fd: i32, file: &[u8]) {
         }
     }
     picture(asked, &frame, ended);
+    if asked.missing {
+        let panel = ended.panel;
+        let control = panel.control;
+        listing::list(control.view, &panel.text, n);
+    }
     if ended.number != 0 {
         saying::stopped(file, ended.records, ended.number, asked.time);
     }

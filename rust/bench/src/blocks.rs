@@ -9,6 +9,18 @@ pub type Tile = [u8; 32];
 type Row = [u64; 4];
 
 const BLANK: Tile = [0; 32];
+/// What a glyph that is missing shows.
+const BOX: Tile = {
+    let mut tile = [0; 32];
+    let mut y = 0;
+    while y < 16 {
+        let edge = y == 0 || y == 15;
+        tile[2 * y] = if edge { 0xFF } else { 0x80 };
+        tile[2 * y + 1] = if edge { 0xFF } else { 0x01 };
+        y += 1;
+    }
+    tile
+};
 const NO_HALF: [u8; 16] = [0; 16];
 
 /// The fonts, of lengths that are not refused, and the phase.
@@ -42,12 +54,12 @@ fn number(bytes: &[u8; 32], eight: usize) -> u64 {
     u64::from_le_bytes(bytes.as_chunks().0[eight])
 }
 
-/// Thirty-two bytes that lie together, blank where they do not.
+/// Thirty-two bytes that lie together, the box where they do not.
 fn together(bytes: &[u8], at: usize) -> &Tile {
     bytes
         .get(at..)
         .and_then(|part| part.first_chunk())
-        .unwrap_or(&BLANK)
+        .unwrap_or(&BOX)
 }
 
 fn half_glyph(half: &[u8; 2048], code: u8) -> &[u8; 16] {

@@ -15,9 +15,11 @@ fn half(f: Look<'_>, code: u8) -> &[u8; 16] {
     }
 }
 
-/// Sixteen rows of two bytes that lie together, blank where they do not.
+/// Sixteen rows of two bytes that lie together, the box of a missing glyph where they do not.
 fn pairs(bytes: &[u8], at: usize) -> Tile {
-    let mut tile = [[0; 2]; 16];
+    let mut tile = [[0x80, 0x01]; 16];
+    tile[0] = [0xFF; 2];
+    tile[15] = [0xFF; 2];
     if let Some(bytes) = bytes.get(at..at + 32) {
         tile.as_flattened_mut().copy_from_slice(bytes);
     }

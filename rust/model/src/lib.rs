@@ -10,7 +10,7 @@
 //! | Memories and flags | `memories`, and `bytes` for comparing states |
 //! | Instructions | `instructions` (the table), `data` (reads and writes) |
 //! | Links | `links`, `parallel`, `serial`, `sender` |
-//! | The picture | `picture`, and `numbering` for full glyphs |
+//! | The picture | `picture`, `glyphs` (the lookup), and `numbering` for full glyphs |
 //! | Bytes named for repaint | `named` |
 //! | Refusal numbers | `calls` |
 //! | Captures | `captures`, `replay` |
@@ -19,15 +19,19 @@
 //! busy, what that loses and what each transfer costs. Clear also sets I/D to
 //! 1, as document 02 asks. And as it asks, a panel has one of two numberings of
 //! full glyphs, chosen when it is made and at each reset. Two panels may share
-//! one wire with a select line each, as it asks too: `panel_pair`.
+//! one wire with a select line each, as it asks too: `panel_pair`. A code that
+//! has a number and no glyph in the lent font shows a box, as it asks, and
+//! `missing` lists such codes with their places.
 
 mod bytes;
 mod calls;
 mod captures;
 mod data;
+mod glyphs;
 mod instructions;
 mod links;
 mod memories;
+mod missing;
 mod named;
 mod numbering;
 mod panel_pair;
@@ -43,6 +47,7 @@ pub use captures::{Reader, Record};
 pub use instructions::{decide, Instruction};
 pub use links::{Kind, Link, Pair, Receiver, Transfer};
 pub use memories::{Half, Panel, Target};
+pub use missing::Missing;
 pub use named::{named, Named};
 pub use numbering::{full_glyph_number, Numbering};
 pub use panel_pair::{PairOutcome, PanelPair, Selects, Side};

@@ -1,9 +1,10 @@
 //! Bytes named for repaint.
 
+use crate::glyphs::image_of;
 use crate::instructions::{decide, Instruction};
 use crate::links::Transfer;
 use crate::memories::{Half, Panel, Target};
-use crate::picture::{image_of, shown_row, shown_word};
+use crate::picture::{shown_row, shown_word};
 use crate::time::lost;
 
 /// A set of the 1,024 frame places.

@@ -1,7 +1,7 @@
 //! The picture, dot by dot.
 
-use crate::memories::{bit, half_of, Half, Panel, Target};
-use crate::numbering::full_glyph_number;
+use crate::glyphs::{is_half_glyph, look_up, Glyph, Lookup};
+use crate::memories::{bit, Panel, Target};
 
 /// The two lent fonts and the blink phase.
 #[derive(Clone, Copy)]
@@ -19,15 +19,6 @@ pub(crate) fn shown_row(panel: &Panel, r: usize) -> usize {
 /// Cell k of row s shows text word 16 (s/16) + (k + shift) mod 16.
 pub(crate) fn shown_word(panel: &Panel, s: usize, k: usize) -> usize {
     16 * (s / 16) + (k + usize::from(panel.shift)) % 16
-}
-
-/// Word 0000h..000Fh: image (low byte / 2) mod 4.
-pub(crate) fn image_of(word: u16) -> Option<usize> {
-    if word <= 0x000F {
-        Some((usize::from(half_of(word, Half::Low)) / 2) % 4)
-    } else {
-        None
-    }
 }
 
 /// The byte of the picture at a frame place: bit 7 leftmost.
@@ -81,40 +72,31 @@ fn dot(panel: &Panel, r: usize, x: usize, lent: Lent) -> bool {
 
 /// The dot of a text word's glyph: row y, `across` 0..15 from the left.
 fn glyph_dot(panel: &Panel, word: u16, y: usize, across: usize, lent: Lent) -> bool {
-    // Word 0000h..000Fh: an image; its row y is glyph word 16 i + y.
-    if let Some(i) = image_of(word) {
-        return word_dot(panel.glyph[16 * i + y], across);
-    }
-    let high = half_of(word, Half::High);
-    let low = half_of(word, Half::Low);
-    // High byte A1h or more: a full glyph, or blank.
-    if high >= 0xA1 {
-        let number = full_glyph_number(panel.numbering, high, low);
-        return full_dot(lent.full, number, y, across);
-    }
-    // Otherwise each byte by itself.
-    if across < 8 {
-        half_dot(lent.half, high, y, across)
-    } else {
-        half_dot(lent.half, low, y, across - 8)
+    match look_up(panel.numbering, word, lent.full) {
+        // Row y of image i is glyph word 16 i + y.
+        Lookup::Found(Glyph::Image(i)) => word_dot(panel.glyph[16 * i + y], across),
+        // Row y is byte 2 y of the glyph and the next byte.
+        Lookup::Found(Glyph::Full(rows)) => byte_dot(rows[2 * y + across / 8], across % 8),
+        Lookup::Found(Glyph::Halves { left, right }) => {
+            if across < 8 {
+                half_dot(lent.half, left, y, across)
+            } else {
+                half_dot(lent.half, right, y, across - 8)
+            }
+        }
+        Lookup::Blank => false,
+        Lookup::Missing => box_dot(y, across),
     }
 }
 
-/// Full glyph number i inside the lent font, else blank, as without a number.
-/// Row y is at 32 i + 2 y and the next byte.
-fn full_dot(full: &[u8], number: Option<usize>, y: usize, across: usize) -> bool {
-    let Some(i) = number else {
-        return false;
-    };
-    if 32 * i + 32 > full.len() {
-        return false;
-    }
-    byte_dot(full[32 * i + 2 * y + across / 8], across % 8)
+/// A box, the outermost dots of the 16 by 16 cell.
+fn box_dot(y: usize, across: usize) -> bool {
+    y == 0 || y == 15 || across == 0 || across == 15
 }
 
-/// 02h..7Fh is a half glyph, row y at 16 c + y; the rest is blank.
+/// A half glyph's row y is at 16 c + y; any other code is blank.
 fn half_dot(half: &[u8], code: u8, y: usize, across: usize) -> bool {
-    if !(0x02..=0x7F).contains(&code) {
+    if !is_half_glyph(code) {
         return false;
     }
     byte_dot(half[16 * usize::from(code) + y], across)

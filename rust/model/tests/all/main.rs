@@ -3,11 +3,14 @@
 
 mod agreement;
 mod bench;
+mod boxes;
+mod boxes_random;
 mod cabinet;
 mod calls;
 mod clear;
 mod data;
 mod instructions;
+mod missing;
 mod numbering;
 mod panel_pair;
 mod panel_pair_random;

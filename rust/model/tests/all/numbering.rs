@@ -3,7 +3,7 @@
 
 use crate::bench::{Bench, Dice, Over, LINKS, NUMBERINGS};
 use crate::calls::{program_with, records};
-use crate::second_picture::{second_number, second_picture};
+use crate::second_picture::{second_number, second_picture, BOX};
 use model::{
     full_glyph_number, named, printed, replay, send, Kind, Link, Numbering, Panel, Target,
     Transfer, FULL_FONT_LIMIT,
@@ -20,7 +20,7 @@ const RESETS: [(u8, bool, Numbering); 4] = [
 /// One glyph short, exact and one more at both ends.
 const ALLOWED: [usize; 5] = [267_232, 267_264, 267_296, 281_568, 281_600];
 
-const BLANK: [u16; 16] = [0; 16];
+pub const BLANK: [u16; 16] = [0; 16];
 
 fn number(numbering: Numbering, word: u16) -> Option<usize> {
     let [lead, trail] = word.to_be_bytes();
@@ -28,19 +28,19 @@ fn number(numbering: Numbering, word: u16) -> Option<usize> {
 }
 
 /// A font as long as allowed: all rows of glyph i are i + 1, so none is blank.
-fn marked_font() -> Vec<u8> {
+pub fn marked_font() -> Vec<u8> {
     (1..=8_800u16)
         .flat_map(|mark| mark.to_be_bytes().repeat(16))
         .collect()
 }
 
 /// What glyph i of the marked font looks like.
-fn marked(i: usize) -> [u16; 16] {
+pub fn marked(i: usize) -> [u16; 16] {
     [i as u16 + 1; 16]
 }
 
 /// A panel that shows these words, 32 at most, and nothing else.
-fn showing(numbering: Numbering, words: &[u16]) -> Panel {
+pub fn showing(numbering: Numbering, words: &[u16]) -> Panel {
     let mut panel = Panel::made(true, false, numbering);
     panel.display = true;
     panel.target = Target::Glyph;
@@ -50,7 +50,7 @@ fn showing(numbering: Numbering, words: &[u16]) -> Panel {
 }
 
 /// The 16 rows of a cell on one of the two lines in sight.
-fn cell_of(frame: &[u8], at: usize) -> [u16; 16] {
+pub fn cell_of(frame: &[u8], at: usize) -> [u16; 16] {
     let top = 512 * (at / 16) + 2 * (at % 16);
     std::array::from_fn(|y| {
         let place = top + 32 * y;
@@ -59,7 +59,7 @@ fn cell_of(frame: &[u8], at: usize) -> [u16; 16] {
 }
 
 /// The cell of each word, drawn with these fonts.
-fn cells(numbering: Numbering, words: &[u16], half: &[u8], full: &[u8]) -> Vec<[u16; 16]> {
+pub fn cells(numbering: Numbering, words: &[u16], half: &[u8], full: &[u8]) -> Vec<[u16; 16]> {
     let mut cells = Vec::new();
     for some in words.chunks(32) {
         let mut frame = [0x55; 1_024];
@@ -199,7 +199,7 @@ fn reading_48_images_and_half_glyphs_are_the_same() {
     }
 }
 
-/// Fonts cut off anywhere: a glyph is shown if all of it is there.
+/// Fonts cut off anywhere: a glyph is shown if all of it is there, else a box.
 #[test]
 fn fonts_cut_around_both_ends() {
     let font = marked_font();
@@ -215,7 +215,8 @@ fn fonts_cut_around_both_ends() {
             for (&word, cell) in words.iter().zip(cells) {
                 let expected = match second_number(numbering, word) {
                     Some(i) if i < length / 32 => marked(i),
-                    _ => BLANK,
+                    Some(_) => BOX,
+                    None => BLANK,
                 };
                 assert_eq!(cell, expected, "{word:04X} in {length}");
             }
@@ -228,18 +229,18 @@ fn fonts_cut_around_both_ends() {
 fn the_last_glyph_of_a_font() {
     let font = marked_font();
     for (numbering, last, length, shown) in [
-        (Numbering::Old, 0xF7FF, 267_232, [8_351, 0]),
-        (Numbering::Old, 0xF7FF, 267_264, [8_351, 8_352]),
-        (Numbering::Old, 0xF7FF, 267_296, [8_351, 8_352]),
-        (Numbering::Old, 0xF7FF, 281_600, [8_351, 8_352]),
-        (Numbering::New, 0xD7FF, 267_264, [0, 0]),
-        (Numbering::New, 0xD7FF, 281_536, [0, 0]),
-        (Numbering::New, 0xD7FF, 281_568, [8_799, 0]),
-        (Numbering::New, 0xD7FF, 281_600, [8_799, 8_800]),
+        (Numbering::Old, 0xF7FF, 267_232, [marked(8_350), BOX]),
+        (Numbering::Old, 0xF7FF, 267_264, [8_350, 8_351].map(marked)),
+        (Numbering::Old, 0xF7FF, 267_296, [8_350, 8_351].map(marked)),
+        (Numbering::Old, 0xF7FF, 281_600, [8_350, 8_351].map(marked)),
+        (Numbering::New, 0xD7FF, 267_264, [BOX, BOX]),
+        (Numbering::New, 0xD7FF, 281_536, [BOX, BOX]),
+        (Numbering::New, 0xD7FF, 281_568, [marked(8_798), BOX]),
+        (Numbering::New, 0xD7FF, 281_600, [8_798, 8_799].map(marked)),
     ] {
         let words = [last - 1, last];
         let cells = cells(numbering, &words, &[0xFF; 2_048], &font[..length]);
-        assert_eq!(cells, shown.map(|mark| [mark; 16]), "{length}");
+        assert_eq!(cells, shown, "{length}");
     }
 }
 
@@ -538,7 +539,7 @@ fn other(numbering: Numbering) -> Numbering {
 }
 
 /// A byte of a wide code, mostly.
-fn wide_byte(dice: &mut Dice) -> u8 {
+pub fn wide_byte(dice: &mut Dice) -> u8 {
     match dice.below(5) {
         0 => dice.text_byte(),
         1 => 0x40 + dice.below(64) as u8,

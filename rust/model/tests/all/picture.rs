@@ -78,9 +78,12 @@ fn reading_24_full_glyphs() {
                 if lead <= 0xF7 && trail >= 0xA0 {
                     let (a, b) = (lead - 0xA0, trail - 0x9F);
                     let number = (usize::from(a) - 1) * 96 + usize::from(b) - 1;
-                    if 32 * number < length {
-                        expected = [a, b];
-                    }
+                    expected = if 32 * number < length {
+                        [a, b]
+                    } else {
+                        // Row 0 of the box of a missing glyph.
+                        [0xFF, 0xFF]
+                    };
                 }
                 assert_eq!(bench.picture()[0..2], expected);
             }

@@ -1,9 +1,29 @@
-//! The picture a second time, word by word instead of dot by dot, and the
-//! named bytes a second time, by arithmetic instead of walking.
+//! The picture a second time, word by word instead of dot by dot; the named
+//! bytes and the missing glyphs a second time, by arithmetic instead of walking.
 
 use std::collections::BTreeSet;
 
-use model::{Half, Numbering, Panel, Target};
+use model::{Half, Missing, Numbering, Panel, Target};
+
+/// The box of a missing glyph, dot for dot.
+pub const BOX: [u16; 16] = [
+    0b11111111_11111111,
+    0b10000000_00000001,
+    0b10000000_00000001,
+    0b10000000_00000001,
+    0b10000000_00000001,
+    0b10000000_00000001,
+    0b10000000_00000001,
+    0b10000000_00000001,
+    0b10000000_00000001,
+    0b10000000_00000001,
+    0b10000000_00000001,
+    0b10000000_00000001,
+    0b10000000_00000001,
+    0b10000000_00000001,
+    0b10000000_00000001,
+    0b11111111_11111111,
+];
 
 /// The picture, one 16-bit word per cell row.
 pub fn second_picture(panel: &Panel, half: &[u8], full: &[u8], phase: bool) -> Vec<u8> {
@@ -40,11 +60,12 @@ fn cell_row(panel: &Panel, word: u16, y: usize, half: &[u8], full: &[u8]) -> u16
     match (high, low) {
         (0, 0..=15) => panel.glyph[usize::from(low >> 1 & 3) * 16 + y],
         (0xA1..=0xFF, _) => {
-            let glyph = second_number(panel.numbering, word)
-                .and_then(|number| full.chunks_exact(32).nth(number));
-            match glyph {
+            let Some(number) = second_number(panel.numbering, word) else {
+                return 0;
+            };
+            match full.chunks_exact(32).nth(number) {
                 Some(glyph) => u16::from_be_bytes([glyph[2 * y], glyph[2 * y + 1]]),
-                None => 0,
+                None => BOX[y],
             }
         }
         _ => {
@@ -86,6 +107,31 @@ pub fn cell(panel: &Panel, word: u8) -> BTreeSet<usize> {
         .filter_map(|y| frame_row(panel, word / 16 * 16 + y))
         .flat_map(|r| [32 * r + 2 * k, 32 * r + 2 * k + 1])
         .collect()
+}
+
+/// The missing glyphs in sight: looked for word by word, then put in order.
+pub fn second_missing(panel: &Panel, full: &[u8]) -> Vec<Missing> {
+    let mut list = Vec::new();
+    for (word, &code) in panel.text.iter().enumerate() {
+        let number = second_number(panel.numbering, code);
+        if number.is_none_or(|number| number < full.len() / 32) {
+            continue;
+        }
+        let rows = || (0..16).filter_map(|y| frame_row(panel, word / 16 * 16 + y));
+        let (Some(first_row), Some(last_row)) = (rows().min(), rows().max()) else {
+            continue;
+        };
+        let [lead, trail] = code.to_be_bytes();
+        list.push(Missing {
+            lead,
+            trail,
+            first_row,
+            last_row,
+            cell: (word + 16 - usize::from(panel.shift)) % 16,
+        });
+    }
+    list.sort_by_key(|missing| (missing.first_row, missing.cell));
+    list
 }
 
 /// The byte of the graphic write that comes next.

@@ -1,0 +1,125 @@
+-- What a cell shows by its code and the font; and that calls look at fonts for the picture alone.
+use Prim.Native.Nat.{ℕ, _+_, _*_, _-_, _/_, _%_, _≤_, _<_}
+use mathlib.Core.Bool.{Bool, true, false, _&&_, _||_}
+use mathlib.Core.List.{List, [], _∷_, map}
+use mathlib.Core.Path.{_≡_, refl, sym, ap, ap₂, _∙_}
+use native.Mathlib.Omega.{arith}
+use lib.Dec.{eqb, leb}
+use lib.ListN.{length}
+use borrow.Author.Tests.{ne-eqb, lt-leb, le-leb}
+use Rattle.base.specs.Choice.{if_then_else_}
+use Rattle.base.proofs.Choice.{either, by-test}
+use Rattle.base.proofs.Below.{below, _&_}
+use Rattle.controller.specs.declared.Image as image
+use Rattle.controller.specs.Memories.{half}
+use Rattle.controller.specs.Glass.{imageOf, shownRow}
+use Rattle.events.specs.declared.Event.{Event}
+use Rattle.glyph.specs.declared.Content.{Content}
+use Rattle.glyph.specs.Dots.{boxByte, dotsOf}
+use Rattle.glyph.specs.Lookup.{fullOf, fontOf, imageOr, contentOf}
+use Rattle.numbering.proofs.Numbers.{numbered-lead}
+use Rattle.links.specs.declared.Taken.{Taken}
+use Rattle.links.specs.declared.Taken.the-variants.{OtherLink, Carries}
+use Rattle.picture.specs.Picture.{Seen, right, wordContent, cellByte}
+use Rattle.picture.proofs.Unread.{half-right}
+use Rattle.calls.specs.State.{State}
+use Rattle.calls.specs.Calls.{Called, Fits, unlessOther, takenOn, timeless, called}
+use Rattle.calls.proofs.Kept.{admitted, still-fits}
+use Rattle.missing.specs.declared.Missing.the-variants.{Nothing}
+use Rattle.missing.specs.Missing.{codeIfMissing, missingAt}
+use Rattle.demands.specs.Wires.{answers}
+use Rattle.demands.specs.Numbered.{Answered}
+use Rattle.demands.specs.Missing.{leadAt, trailAt, dot, outermost, butFrame, BoxWhereMissing, EmptyFontGivesBoxes, BlankWithoutNumber, OthersNeverMissing, FontsShowInPictureAlone, ListedWhereMissing, NotListedWhereFound, NotListedWithoutNumber}
+
+-- the box by its dots: a whole row, and the edge at either side
+
+row-dots : (x : ℕ) → x < 8 → dot x 0xFF ≡ true
+row-dots = below (λ x. dot x 0xFF ≡ true) 8 (refl & refl & refl & refl & refl & refl & refl & refl & tt)
+
+abbrev EdgeDot : Bool → ℕ → Type 0
+EdgeDot low x = dot x (if low then 0x01 else 0x80) ≡ (eqb (8 * half low + x) 0 || eqb (8 * half low + x) 15)
+
+edge-dots : (low : Bool) (x : ℕ) → x < 8 → EdgeDot low x
+edge-dots false = below (EdgeDot false) 8 (refl & refl & refl & refl & refl & refl & refl & refl & tt)
+edge-dots true = below (EdgeDot true) 8 (refl & refl & refl & refl & refl & refl & refl & refl & tt)
+
+box-dots : (y : ℕ) (low : Bool) (x : ℕ) → x < 8 → dot x (boxByte y low) ≡ outermost (8 * half low + x) y
+unfolding boxByte
+box-dots y low x h = by-test (eqb y 0 || eqb y 15) (λ t. rw t (row-dots x h)) (λ t. rw t (edge-dots low x h))
+
+-- no image, by the font, and not inside it
+pub box-where-missing : BoxWhereMissing
+unfolding cellByte wordContent contentOf fontOf fullOf imageOf dotsOf
+box-where-missing e m v row column i x is outside h =
+    let high : ℕ = leadAt (m .text) v row (column / 2) in
+    let lead : 0xA1 ≤ high = numbered-lead (v .numbering) high _ i is in
+    rw (ne-eqb high 0x00 (λ z. omega arith), le-leb 0xA1 high lead, is, lt-leb (32 * i + 32) (length (e .full)) outside)
+    (box-dots (shownRow v row % 16) (right column) x h ∙ ap (λ (side : ℕ). outermost (8 * side + x) (shownRow v row % 16)) (half-right column))
+
+pub empty-font-gives-boxes : EmptyFontGivesBoxes
+empty-font-gives-boxes half m v row column i x is h = box-where-missing _ m v row column i x is (omega arith) h
+
+pub blank-without-number : BlankWithoutNumber
+unfolding cellByte wordContent contentOf fontOf fullOf imageOf dotsOf
+blank-without-number e m v row column lead is =
+    let high : ℕ = leadAt (m .text) v row (column / 2) in
+    rw (ne-eqb high 0x00 (λ z. omega arith), le-leb 0xA1 high lead, is)
+
+pub others-never-missing : OthersNeverMissing
+unfolding cellByte wordContent contentOf fontOf imageOf dotsOf
+others-never-missing e full m v row column h =
+    let high : ℕ = leadAt (m .text) v row (column / 2) in
+    let low : ℕ = trailAt (m .text) v row (column / 2) in
+    rw (lt-leb 0xA1 high h) (by-test (eqb high 0x00 && leb low 0x0F) (λ t. rw t) (λ t. rw t))
+
+-- listed
+
+pub listed-where-missing : ListedWhereMissing
+unfolding missingAt wordContent contentOf fontOf fullOf imageOf codeIfMissing
+listed-where-missing v size text row cell i is outside =
+    let high : ℕ = leadAt text v row cell in
+    let lead : 0xA1 ≤ high = numbered-lead (v .numbering) high _ i is in
+    rw (ne-eqb high 0x00 (λ z. omega arith), le-leb 0xA1 high lead, is, lt-leb (32 * i + 32) size outside)
+
+pub not-listed-where-found : NotListedWhereFound
+unfolding missingAt wordContent contentOf fontOf fullOf imageOf codeIfMissing
+not-listed-where-found v size text row cell i is inside =
+    let high : ℕ = leadAt text v row cell in
+    let lead : 0xA1 ≤ high = numbered-lead (v .numbering) high _ i is in
+    rw (ne-eqb high 0x00 (λ z. omega arith), le-leb 0xA1 high lead, is, le-leb (32 * i + 32) size inside)
+
+pub not-listed-without-number : NotListedWithoutNumber
+unfolding missingAt wordContent contentOf fontOf fullOf imageOf codeIfMissing
+not-listed-without-number v size text row cell is =
+    let high : ℕ = leadAt text v row cell in
+    let low : ℕ = trailAt text v row cell in
+    either (λ (x : image.Image). codeIfMissing (imageOr x (fontOf (v .numbering) high low size)) high low ≡ Nothing) (eqb high 0x00 && leb low 0x0F) refl
+    (either (λ (c : Content). codeIfMissing c high low ≡ Nothing) (leb 0xA1 high) (rw is refl) refl)
+
+-- seen in the picture alone
+
+module _ (e f : Seen) where
+  taken-same : (s : State) (frame other : List ℕ) (t : Taken) → butFrame (unlessOther e s frame t) ≡ butFrame (unlessOther f s other t)
+  taken-same s frame other OtherLink = refl
+  taken-same s frame other (Carries x) = refl
+
+  call-same : (s : State) (frame other : List ℕ) (call : Event) → Fits e frame → Fits f other → butFrame (called e s frame call) ≡ butFrame (called f s other call)
+  call-same s frame other call h k =
+      rw (admitted e s frame call h, admitted f s other call k)
+      (by-test (timeless (s .control) call) (λ t. rw t) (λ t. rw t (taken-same s frame other (takenOn s call))))
+
+  calls-same : (calls : List Event) (s t : State) (frame other : List ℕ) → s ≡ t → Fits e frame → Fits f other
+      → map butFrame (answers e s frame calls) ≡ map butFrame (answers f t other calls)
+  unfolding answers
+  calls-same [] s t frame other same h k = refl
+  calls-same (call ∷ calls) s t frame other same h k =
+      let first : butFrame (called e s frame call) ≡ butFrame (called f t other call) =
+      call-same s frame other call h k ∙ ap (λ (u : State). butFrame (called f u other call)) same in
+      ap₂ _∷_ first
+      (calls-same calls (called e s frame call .state) (called f t other call .state) (called e s frame call .frame) (called f t other call .frame)
+      (ap (λ (a : Answered). a .state) first)
+      (still-fits e s frame call h)
+      (still-fits f t other call k))
+
+pub fonts-show-in-picture-alone : FontsShowInPictureAlone
+fonts-show-in-picture-alone e f s frame other calls h k = calls-same e f calls s s frame other refl h k
