@@ -5,7 +5,7 @@ use libc::STDOUT_FILENO;
 use missing::Missing;
 use missing::missing_at;
 use picture::shown::shown_row;
-ghost use Prim.Native.Nat.{_+_, _<_, _≤_};
+ghost use Prim.Native.Nat.{_<_};
 
 // A hex digit, in capitals.
 fn digit(d: u8) -> u8
@@ -14,8 +14,8 @@ fn digit(d: u8) -> u8
     if d < 10 { b'0' + d } else { 0x37 + d }
 }
 
-// The line of one code: which it is, and where its cell stands on the glass.
-fn print(lead: u8, trail: u8, row: u32, end: u32, cell: u32)
+// The line of one code: which it is, and where its cell stands on the glass; answers whether it was written.
+fn print(lead: u8, trail: u8, row: u32, end: u32, cell: u32) -> bool
     requires { ⌜ row < end ⌝ }
 {
     let code = [
@@ -24,49 +24,56 @@ fn print(lead: u8, trail: u8, row: u32, end: u32, cell: u32)
         digit(trail / 16),
         digit(trail % 16),
     ];
-    io::write_all(STDOUT_FILENO, b"no glyph for ");
-    io::write_all(STDOUT_FILENO, &code);
-    io::write_all(STDOUT_FILENO, b"h: cell ");
-    io::print_decimal(STDOUT_FILENO, cell as u64);
-    io::write_all(STDOUT_FILENO, b", rows ");
-    io::print_decimal(STDOUT_FILENO, row as u64);
-    io::write_all(STDOUT_FILENO, b" to ");
-    io::print_decimal(STDOUT_FILENO, (end - 1) as u64);
-    io::write_all(STDOUT_FILENO, b"\n");
+    io::write_all(STDOUT_FILENO, b"no glyph for ")
+        && io::write_all(STDOUT_FILENO, &code)
+        && io::write_all(STDOUT_FILENO, b"h: cell ")
+        && io::print_decimal(STDOUT_FILENO, cell as u64)
+        && io::write_all(STDOUT_FILENO, b", rows ")
+        && io::print_decimal(STDOUT_FILENO, row as u64)
+        && io::write_all(STDOUT_FILENO, b" to ")
+        && io::print_decimal(STDOUT_FILENO, (end - 1) as u64)
+        && io::write_all(STDOUT_FILENO, b"\n")
 }
 
-// The cells of the line that stands on the glass from `row` up to `end`, from left to right; answers how many glyphs are missing.
-fn list_line(view: View, row: u32, end: u32, text: &[u8; 128], length: usize) -> u32
+// Whether a glyph is missing, and whether all that was to be said could be written.
+struct Listed {
+    pub some: bool,
+    pub well: bool,
+}
+
+// The cells of the line that stands on the glass from `row` up to `end`, from left to right.
+fn list_line(view: View, row: u32, end: u32, text: &[u8; 128], length: usize) -> Listed
     requires { ⌜ (row < 32) × (row < end) ⌝ }
-    ensures { λ r. ⌜ r ≤ 16 ⌝ }
 {
-    let mut count: u32 = 0;
-    let mut cell: u32 = 0;
-    while cell < 16 {
+    let mut some = false;
+    for cell in 0..16 {
         match missing_at(view, row, cell, text, length) {
             Missing::Nothing => {}
             Missing::Code { lead, trail } => {
-                print(lead, trail, row, end, cell);
-                count += 1;
+                some = true;
+                if !print(lead, trail, row, end, cell) {
+                    return Listed { some, well: false };
+                }
             }
         }
-        cell += 1;
     }
-    count
+    Listed { some, well: true }
 }
 
-// All of the glass, from the top.
-pub(crate) fn list(view: View, text: &[u8; 128], length: usize) {
-    let mut none = true;
+// All of the glass, from the top; answers whether it was written.
+pub(crate) fn list(view: View, text: &[u8; 128], length: usize) -> bool {
+    let mut some = false;
     let mut row: u32 = 0;
     while row < 32 {
         let end = band_end(row, shown_row(view, row));
-        if list_line(view, row, end, text, length) > 0 {
-            none = false;
+        let listed = list_line(view, row, end, text, length);
+        if !listed.well {
+            return false;
+        }
+        if listed.some {
+            some = true;
         }
         row = end;
     }
-    if none {
-        io::write_all(STDOUT_FILENO, b"no glyph is missing\n");
-    }
+    some || io::write_all(STDOUT_FILENO, b"no glyph is missing\n")
 }

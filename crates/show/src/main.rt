@@ -36,36 +36,48 @@ fn caption(ended: Ended) {
     io::write_all(STDOUT_FILENO, b"\n");
 }
 
-// A picture file, by the number of the argument that names it.
-fn write_picture(at: usize, frame: &[u8; 1024]) {
+// A picture file, by the number of the argument that names it; answers whether it was written.
+fn write_picture(at: usize, frame: &[u8; 1024]) -> bool {
     let mut name = io::buffer();
     let n = os::arg(at, &mut name);
     let fd = os::open_overwrite(&name[..n]);
     if fd < 0 {
         failed(&name[..n]);
-        return;
+        return false;
     }
     let picture = frame_view::pbm(frame);
-    if !io::write_all(fd, &picture) {
+    let written = io::write_all(fd, &picture);
+    if !written {
         failed(&name[..n]);
     }
     libc::close(fd);
+    written
 }
 
-fn picture(asked: Asked, frame: &[u8; 1024], ended: Ended) {
+// The glass, as it is asked for; answers whether it was written.
+fn picture(asked: Asked, frame: &[u8; 1024], ended: Ended) -> bool {
     let files = asked.files;
     if files.pbm != 0 {
-        write_picture(files.pbm, frame);
-        return;
+        return write_picture(files.pbm, frame);
     }
     if asked.plain {
         let text = frame_view::plain(frame);
-        print(&text);
-        return;
+        return print(&text);
     }
     let text = frame_view::braille(frame);
-    if print(&text) {
+    let written = print(&text);
+    if written {
         caption(ended);
+    }
+    written
+}
+
+// Which glyphs a full font of `length` bytes lacks.
+fn list_missing(ended: Ended, length: usize) {
+    let panel = ended.panel;
+    let control = panel.control;
+    if !listing::list(control.view, &panel.text, length) {
+        failed(b"standard output");
     }
 }
 
@@ -101,11 +113,8 @@ fn show(asked: Asked, fd: i32, file: &[u8]) {
             return;
         }
     }
-    picture(asked, &frame, ended);
-    if asked.missing {
-        let panel = ended.panel;
-        let control = panel.control;
-        listing::list(control.view, &panel.text, n);
+    if picture(asked, &frame, ended) && asked.missing {
+        list_missing(ended, n);
     }
     if ended.number != 0 {
         saying::stopped(file, ended.records, ended.number, asked.time);

@@ -29,6 +29,8 @@ pub struct Tally {
     pub stops: u64,
     /// Whole draws compared.
     pub draws: u64,
+    /// Records that left the box of a missing glyph on the glass, and draws of a state that shows one.
+    pub boxed: u64,
     /// Lines of the program `replay` compared.
     pub lines: u64,
     /// Clocks of a pair, refused ones among them, after which number, counts, states and frames were compared.
@@ -96,6 +98,7 @@ pub fn compare(case: &Case, from: From, tally: &mut Tally) -> Option<String> {
                 tally.records += 1;
                 tally.kinds[usize::from(case.capture[begin + 2])] += 1;
                 tally.by_new += u64::from(panel.numbering == Numbering::New);
+                tally.boxed += u64::from(boxed(&panel, &case.full));
                 if let Some(before) = before {
                     count_time(case, record, before, &panel, tally);
                 }
@@ -108,6 +111,11 @@ pub fn compare(case: &Case, from: From, tally: &mut Tally) -> Option<String> {
 
 fn step(panel: &mut Panel, case: &Case, record: &[u8], frame: &mut [u8]) -> Replayed {
     model::replay(panel, record, frame, &case.half, &case.full, case.phase)
+}
+
+/// Whether the box of a missing glyph is to be seen.
+pub fn boxed(panel: &Panel, full: &[u8]) -> bool {
+    panel.display && !panel.standby && !panel.missing(full).is_empty()
 }
 
 /// Counts what became of a record's transfer, if it has one: a panel that was idle and is busy has carried it out, and one that was busy

@@ -1,6 +1,6 @@
 //! Whole draws of states that are made up, also of those that no capture is likely to reach.
 use crate::case::{full_length, NUMBERINGS};
-use crate::compare::{bytes, Tally};
+use crate::compare::{boxed, bytes, Tally};
 use crate::names::frame_place;
 use crate::random::Random;
 use crate::scenes::word;
@@ -71,6 +71,7 @@ fn same(
     let proved = proved::draw(Memories::of(state), &mut ours, lent);
     let model = panel.draw(&mut theirs, lent.half, lent.full, lent.phase);
     tally.draws += 1;
+    tally.boxed += u64::from(model == 0 && boxed(panel, lent.full));
     if proved != model {
         return Some(format!(
             "draw's number {proved} of the proved code, {model} of the model"

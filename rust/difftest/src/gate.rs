@@ -105,6 +105,7 @@ pub fn told(tally: &Tally) -> String {
         (tally.by_new, "of them by the new numbering"),
         (tally.stops, "refusals"),
         (tally.draws, "whole draws"),
+        (tally.boxed, "with the box of a missing glyph on the glass"),
         (tally.lines, "printed lines"),
     ];
     let mut parts: Vec<String> = counts

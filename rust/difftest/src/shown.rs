@@ -14,6 +14,7 @@ struct Asked {
     records: usize,
     plain: bool,
     pbm: bool,
+    missing: bool,
 }
 
 pub fn file(path: &str) -> Result<Vec<u8>, String> {
@@ -53,6 +54,7 @@ fn asked(words: &[&str]) -> Result<Asked, String> {
         records: usize::MAX,
         plain: false,
         pbm: false,
+        missing: false,
     };
     let (mut words, mut named) = (words.iter(), false);
     while let Some(&word) = words.next() {
@@ -66,6 +68,7 @@ fn asked(words: &[&str]) -> Result<Asked, String> {
             "--records" => asked.records = value()?.parse().map_err(|_| "no number".to_string())?,
             "--plain" => asked.plain = true,
             "--pbm" => asked.pbm = true,
+            "--missing" => asked.missing = true,
             path => {
                 asked.capture = file(path)?;
                 named = true;
@@ -135,6 +138,21 @@ fn caption(panel: &Panel, records: usize) -> String {
     )
 }
 
+/// A line for each code that has no glyph in the full font.
+fn missing(panel: &Panel, full: &[u8]) -> String {
+    let list = panel.missing(full);
+    if list.is_empty() {
+        return "no glyph is missing\n".to_string();
+    }
+    let line = |one: &model::Missing| {
+        format!(
+            "no glyph for {:02X}{:02X}h: cell {}, rows {} to {}\n",
+            one.lead, one.trail, one.cell, one.first_row, one.last_row
+        )
+    };
+    list.iter().map(line).collect()
+}
+
 fn printed(words: &[&str]) -> Result<Vec<u8>, String> {
     let asked = asked(words)?;
     let mut panel = Panel::made(true, asked.time, Numbering::Old);
@@ -150,13 +168,19 @@ fn printed(words: &[&str]) -> Result<Vec<u8>, String> {
     if (1..=3).contains(&said.number) {
         return Err(format!("a font is refused with {}", said.number));
     }
-    Ok(if asked.pbm {
+    let picture = if asked.pbm {
         [b"P4\n256 32\n".to_vec(), frame].concat()
     } else if asked.plain {
         plain(&frame).into_bytes()
     } else {
         (braille(&frame) + &caption(&panel, said.place)).into_bytes()
-    })
+    };
+    let list = if asked.missing {
+        missing(&panel, &asked.full)
+    } else {
+        String::new()
+    };
+    Ok([picture, list.into_bytes()].concat())
 }
 
 pub fn run(words: &[&str]) -> bool {
