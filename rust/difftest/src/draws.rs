@@ -122,7 +122,7 @@ fn spoil(state: &mut [u8; proved::STATE], panel: &Panel, random: &mut Random) {
     }
 }
 
-/// Every word there is, 32 to a screen, by both numberings, with a full font of any length.
+/// Every word there is, 32 to a screen, by both numberings, with a full font of any length and with an empty one.
 pub fn every_word(random: &mut Random, tally: &mut Tally) -> Option<String> {
     let half = random.bytes(HALF_FONT_LENGTH);
     let longest = random.bytes(FULL_FONT_LIMIT);
@@ -137,16 +137,16 @@ pub fn every_word(random: &mut Random, tally: &mut Tally) -> Option<String> {
         } else {
             32 * random.below(FULL_FONT_LIMIT / 32)
         };
-        let lent = Lent {
-            half: &half,
-            full: &longest[..length],
-            phase: false,
-        };
-        for numbering in NUMBERINGS {
+        for (numbering, length) in NUMBERINGS.into_iter().flat_map(|n| [(n, length), (n, 0)]) {
             shown.numbering = numbering;
+            let lent = Lent {
+                half: &half,
+                full: &longest[..length],
+                phase: false,
+            };
             if let Some(what) = same(&shown, &state(&shown), lent, tally) {
                 return Some(format!(
-                    "{numbering:?} numbering, words from {first:04X}: {what}"
+                    "{numbering:?} numbering, words from {first:04X}, full font of {length} bytes: {what}"
                 ));
             }
         }
