@@ -82,7 +82,7 @@ pub fn usage(fd: i32) {
     );
     io::write_all(
         fd,
-        b"  --full FILE   the full font, a multiple of 32 bytes up to 281,600; else an empty one\n",
+        b"  --full FILE   the full font, a multiple of 32 bytes up to 281,600; else an empty one, which has boxes for all codes\n",
     );
     io::write_all(fd, b"  --phase 0|1   the blink phase; else 0\n");
     io::write_all(
@@ -96,7 +96,7 @@ pub fn usage(fd: i32) {
     );
     io::write_all(
         fd,
-        b"  --pbm FILE    writes a picture file (PBM), and prints nothing\n",
+        b"  --pbm FILE    writes the picture into a file (PBM), and prints none\n",
     );
     io::write_all(
         fd,

@@ -1,8 +1,8 @@
 -- What a cell shows by its code and the font; and that calls look at fonts for the picture alone.
-use Prim.Native.Nat.{ℕ, _+_, _*_, _-_, _/_, _%_, _≤_, _<_}
+use Prim.Native.Nat.{ℕ, _+_, _*_, _/_, _≤_, _<_}
 use mathlib.Core.Bool.{Bool, true, false, _&&_, _||_}
 use mathlib.Core.List.{List, [], _∷_, map}
-use mathlib.Core.Path.{_≡_, refl, sym, ap, ap₂, _∙_}
+use mathlib.Core.Path.{_≡_, refl, ap, ap₂, _∙_}
 use native.Mathlib.Omega.{arith}
 use lib.Dec.{eqb, leb}
 use lib.ListN.{length}
@@ -12,7 +12,7 @@ use Rattle.base.proofs.Choice.{either, by-test}
 use Rattle.base.proofs.Below.{below, _&_}
 use Rattle.controller.specs.declared.Image as image
 use Rattle.controller.specs.Memories.{half}
-use Rattle.controller.specs.Glass.{imageOf, shownRow}
+use Rattle.controller.specs.Glass.{imageOf}
 use Rattle.events.specs.declared.Event.{Event}
 use Rattle.glyph.specs.declared.Content.{Content}
 use Rattle.glyph.specs.Dots.{boxByte, dotsOf}
@@ -20,16 +20,15 @@ use Rattle.glyph.specs.Lookup.{fullOf, fontOf, imageOr, contentOf}
 use Rattle.numbering.proofs.Numbers.{numbered-lead}
 use Rattle.links.specs.declared.Taken.{Taken}
 use Rattle.links.specs.declared.Taken.the-variants.{OtherLink, Carries}
-use Rattle.picture.specs.Picture.{Seen, right, wordContent, cellByte}
-use Rattle.picture.proofs.Unread.{half-right}
+use Rattle.picture.specs.Picture.{Seen, wordContent, cellByte}
 use Rattle.calls.specs.State.{State}
-use Rattle.calls.specs.Calls.{Called, Fits, unlessOther, takenOn, timeless, called}
+use Rattle.calls.specs.Calls.{Fits, unlessOther, takenOn, timeless, called}
 use Rattle.calls.proofs.Kept.{admitted, still-fits}
-use Rattle.missing.specs.declared.Missing.the-variants.{Nothing}
+use Rattle.missing.specs.declared.Lacks.the-variants.{Nothing}
 use Rattle.missing.specs.Missing.{codeIfMissing, missingAt}
 use Rattle.demands.specs.Wires.{answers}
-use Rattle.demands.specs.Numbered.{Answered}
-use Rattle.demands.specs.Missing.{leadAt, trailAt, dot, outermost, butFrame, BoxWhereMissing, EmptyFontGivesBoxes, BlankWithoutNumber, OthersNeverMissing, FontsShowInPictureAlone, ListedWhereMissing, NotListedWhereFound, NotListedWithoutNumber}
+use Rattle.demands.specs.Numbered.{leadAt, trailAt, Answered}
+use Rattle.demands.specs.Missing.{dot, butFrame, BoxIsOutermost, BoxWhereMissing, EmptyFontGivesBoxes, BlankWithoutNumber, ImagesNeverMissing, HalvesNeverMissing, FontsShowInPictureAlone, ListedWhereMissing, NotListedWhereFound, NotListedWithoutNumber}
 
 -- the box by its dots: a whole row, and the edge at either side
 
@@ -43,21 +42,20 @@ edge-dots : (low : Bool) (x : ℕ) → x < 8 → EdgeDot low x
 edge-dots false = below (EdgeDot false) 8 (refl & refl & refl & refl & refl & refl & refl & refl & tt)
 edge-dots true = below (EdgeDot true) 8 (refl & refl & refl & refl & refl & refl & refl & refl & tt)
 
-box-dots : (y : ℕ) (low : Bool) (x : ℕ) → x < 8 → dot x (boxByte y low) ≡ outermost (8 * half low + x) y
+pub box-is-outermost : BoxIsOutermost
 unfolding boxByte
-box-dots y low x h = by-test (eqb y 0 || eqb y 15) (λ t. rw t (row-dots x h)) (λ t. rw t (edge-dots low x h))
+box-is-outermost y low x h = by-test (eqb y 0 || eqb y 15) (λ t. rw t (row-dots x h)) (λ t. rw t (edge-dots low x h))
 
 -- no image, by the font, and not inside it
 pub box-where-missing : BoxWhereMissing
 unfolding cellByte wordContent contentOf fontOf fullOf imageOf dotsOf
-box-where-missing e m v row column i x is outside h =
+box-where-missing e m v row column i is outside =
     let high : ℕ = leadAt (m .text) v row (column / 2) in
     let lead : 0xA1 ≤ high = numbered-lead (v .numbering) high _ i is in
     rw (ne-eqb high 0x00 (λ z. omega arith), le-leb 0xA1 high lead, is, lt-leb (32 * i + 32) (length (e .full)) outside)
-    (box-dots (shownRow v row % 16) (right column) x h ∙ ap (λ (side : ℕ). outermost (8 * side + x) (shownRow v row % 16)) (half-right column))
 
 pub empty-font-gives-boxes : EmptyFontGivesBoxes
-empty-font-gives-boxes half m v row column i x is h = box-where-missing _ m v row column i x is (omega arith) h
+empty-font-gives-boxes half m v row column i is = box-where-missing _ m v row column i is (omega arith)
 
 pub blank-without-number : BlankWithoutNumber
 unfolding cellByte wordContent contentOf fontOf fullOf imageOf dotsOf
@@ -65,12 +63,13 @@ blank-without-number e m v row column lead is =
     let high : ℕ = leadAt (m .text) v row (column / 2) in
     rw (ne-eqb high 0x00 (λ z. omega arith), le-leb 0xA1 high lead, is)
 
-pub others-never-missing : OthersNeverMissing
-unfolding cellByte wordContent contentOf fontOf imageOf dotsOf
-others-never-missing e full m v row column h =
-    let high : ℕ = leadAt (m .text) v row (column / 2) in
-    let low : ℕ = trailAt (m .text) v row (column / 2) in
-    rw (lt-leb 0xA1 high h) (by-test (eqb high 0x00 && leb low 0x0F) (λ t. rw t) (λ t. rw t))
+pub images-never-missing : ImagesNeverMissing
+unfolding cellByte wordContent contentOf dotsOf
+images-never-missing e m v row column i is = rw is
+
+pub halves-never-missing : HalvesNeverMissing
+unfolding cellByte wordContent contentOf fontOf dotsOf
+halves-never-missing e m v row column none h = rw (none, lt-leb 0xA1 (leadAt (m .text) v row (column / 2)) h)
 
 -- listed
 

@@ -15,6 +15,7 @@ use Rattle.events.specs.declared.Made.{Made}
 use Rattle.events.specs.declared.Numbering.{Numbering}
 use Rattle.events.specs.declared.Numbering.the-variants.{By96}
 use Rattle.events.specs.declared.Pin.{Pin}
+use Rattle.numbering.specs.declared.Code.{Code}
 use Rattle.numbering.specs.declared.Code.the-variants.{Number}
 use Rattle.numbering.specs.Numbering.{numberOf, numberCount}
 use Rattle.glyph.specs.Lookup.{contentOf}
@@ -57,11 +58,22 @@ OthersAsBefore = (n : Numbering) (high low size : ℕ) → high < 0xA1 → conte
 abbrev pub EndNotAskedFor : Type 0
 EndNotAskedFor = (high low size : ℕ) → low < 256 → 267264 ≤ size → contentOf By96 high low size ≡ contentOf By96 high low 267264
 
--- 5. A cell whose code has a number in the panel's numbering shows the glyph of that number, where that lies inside the lent font.
+-- the two bytes of the word that a cell shows, and the number that they have as a code in the panel's numbering
+abbrev pub leadAt : List ℕ → View → ℕ → ℕ → ℕ
+leadAt text v row cell = getD text (wordPlace (shownWord v row cell) false) 0
+
+abbrev pub trailAt : List ℕ → View → ℕ → ℕ → ℕ
+trailAt text v row cell = getD text (wordPlace (shownWord v row cell) true) 0
+
+abbrev pub codeAt : List ℕ → View → ℕ → ℕ → Code
+codeAt text v row cell = numberOf (v .numbering) (leadAt text v row cell) (trailAt text v row cell)
+
+-- 5. A cell whose code has a number in the panel's numbering shows the glyph of that number, where that lies inside the lent font (else the
+-- box: Missing.antt).
 abbrev pub ShownByNumber : Type 0
 ShownByNumber =
     (e : Fonts) (m : Memories) (v : View) (row column i : ℕ)
-    → numberOf (v .numbering) (getD (m .text) (wordPlace (shownWord v row (column / 2)) false) 0) (getD (m .text) (wordPlace (shownWord v row (column / 2)) true) 0) ≡ Number i
+    → codeAt (m .text) v row (column / 2) ≡ Number i
     → 32 * i + 32 ≤ length (e .full)
     → cellByte e m v row column ≡ getD (e .full) (32 * i + 2 * (shownRow v row % 16) + column % 2) 0
 

@@ -1,4 +1,5 @@
--- Document 01, "The picture", and request K6: the dots of what is shown, one byte of a glyph row at a time. This layer knows memories and fonts.
+-- Document 01, "The picture", and request K6: the dots of what is shown, one byte of a glyph row at a time. This layer knows memories and
+-- fonts.
 use Prim.Native.Nat.{ℕ, _+_, _*_}
 use mathlib.Core.Bool.{Bool, _&&_, _||_}
 use mathlib.Core.List.{List}
@@ -24,10 +25,11 @@ hasHalf c = leb 0x02 c && leb c 0x7F
 unfoldable pub halfByte : List ℕ → ℕ → ℕ → ℕ
 halfByte font c y = if hasHalf c then getD font (16 * c + y) 0 else 0
 
--- the box, for a glyph that is missing: both bytes FFh on glyph rows 0 and 15, 80h and 01h on the others
+-- a column of the box, with this byte for the edge at its side
 abbrev pub boxColumn : ℕ → ℕ → ℕ
 boxColumn edge y = if eqb y 0 || eqb y 15 then 0xFF else edge
 
+-- the box, for a glyph that is missing: both bytes FFh on glyph rows 0 and 15, 80h and 01h on the others
 unfoldable pub boxByte : ℕ → Bool → ℕ
 boxByte y low = boxColumn (if low then 0x01 else 0x80) y
 

@@ -47,7 +47,7 @@ fn code_of(high: u8, low: u8, right: bool) -> u8
     if right { low } else { high }
 }
 
-// Row y of the box.
+// The left or the right byte of row y of the box.
 fn box_byte(y: usize, right: bool) -> u8
     ensures { λ r. ⌜ r ≡ boxByte y right ⌝ }
 {

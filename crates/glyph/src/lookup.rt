@@ -8,7 +8,8 @@ use numbering::number;
 ghost use mathlib.Core.Path.{_≡_};
 ghost use Rattle.glyph.specs.Lookup.{fullOf, fontOf, contentOf};
 
-// A numbered code shows its glyph where that lies whole inside a full font of `length` bytes; else its glyph is missing.
+// A numbered code shows its glyph where that lies whole inside a full font of `length` bytes; else its glyph is missing. One without a number is
+// blank.
 fn full_glyph(code: Code, length: usize) -> Content
     ensures { λ r. ⌜ r ≡ fullOf code length ⌝ }
 {

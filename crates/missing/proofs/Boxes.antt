@@ -10,7 +10,7 @@ use Rattle.glyph.specs.declared.Content.{Content}
 use Rattle.glyph.proofs.Content.{the-type}
 use Rattle.glyph.specs.declared.Content.the-variants.{Image, Full, Halves, Missing, Blank}
 use Rattle.missing.specs.Missing.{codeIfMissing}
-use Rattle.missing.specs.declared.Missing.the-variants.{Nothing, Code}
+use Rattle.missing.specs.declared.Lacks.the-variants.{Nothing, Code}
 
 pub the-box : (lead trail : ℕ) → Code lead trail ≡ codeIfMissing Missing lead trail
 unfolding codeIfMissing

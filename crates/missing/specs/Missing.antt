@@ -1,27 +1,27 @@
 -- Request K6: which glyph is missing, of the present screen.
 use Prim.Native.Nat.{ℕ}
-use mathlib.Core.Bool.{Bool, true, false}
+use mathlib.Core.Bool.{true, false}
 use mathlib.Core.List.{List}
 use lib.ListN.{getD}
 use Rattle.controller.specs.declared.View.{View}
 use Rattle.controller.specs.Memories.{wordPlace}
 use Rattle.controller.specs.Glass.{shownWord}
 use Rattle.glyph.specs.declared.Content.{Content}
-use Rattle.glyph.specs.declared.Content.the-variants as content
+use Rattle.glyph.specs.declared.Content.the-variants.{Image, Full, Halves, Missing, Blank}
 use Rattle.picture.specs.Picture.{wordContent}
-use Rattle.missing.specs.declared.Missing.{Missing}
-use Rattle.missing.specs.declared.Missing.the-variants.{Nothing, Code}
+use Rattle.missing.specs.declared.Lacks.{Lacks}
+use Rattle.missing.specs.declared.Lacks.the-variants.{Nothing, Code}
 
 -- the code of a word with these two bytes, where what it shows is the box of a missing glyph
-unfoldable pub codeIfMissing : Content → ℕ → ℕ → Missing
-codeIfMissing (content.Image i) lead trail = Nothing
-codeIfMissing (content.Full i) lead trail = Nothing
-codeIfMissing (content.Halves h l) lead trail = Nothing
-codeIfMissing content.Missing lead trail = Code lead trail
-codeIfMissing content.Blank lead trail = Nothing
+unfoldable pub codeIfMissing : Content → ℕ → ℕ → Lacks
+codeIfMissing (Image i) lead trail = Nothing
+codeIfMissing (Full i) lead trail = Nothing
+codeIfMissing (Halves h l) lead trail = Nothing
+codeIfMissing Missing lead trail = Code lead trail
+codeIfMissing Blank lead trail = Nothing
 
 -- what cell k of row r lacks, with a full font of `size` bytes
-unfoldable pub missingAt : View → ℕ → List ℕ → ℕ → ℕ → Missing
+unfoldable pub missingAt : View → ℕ → List ℕ → ℕ → ℕ → Lacks
 missingAt v size text r k =
     let word = shownWord v r k in
     codeIfMissing (wordContent (v .numbering) size text word) (getD text (wordPlace word false) 0) (getD text (wordPlace word true) 0)

@@ -7,14 +7,14 @@ ghost use mathlib.Core.Path.{_≡_};
 ghost use Prim.Native.Nat.{_<_};
 ghost use Rattle.missing.specs.Missing.{missingAt};
 
-// The code of two bytes whose glyph is missing, or none.
-pub enum Missing {
+// What a cell lacks: the glyph of a code of two bytes, or nothing.
+pub enum Lacks {
     Nothing,
     Code { lead: u8, trail: u8 },
 }
 
-// What is missing in a cell of a row of the glass, with a full font of `length` bytes.
-pub fn missing_at(view: View, row: u32, cell: u32, text: &[u8; 128], length: usize) -> Missing
+// What a cell of a row of the glass lacks, with a full font of `length` bytes.
+pub fn missing_at(text: &[u8; 128], view: View, row: u32, cell: u32, length: usize) -> Lacks
     requires { ⌜ (row < 32) × (cell < 16) ⌝ }
     ensures { λ r. ⌜ r ≡ missingAt view length (now (text .entry)) row cell ⌝ }
 {
@@ -23,11 +23,11 @@ pub fn missing_at(view: View, row: u32, cell: u32, text: &[u8; 128], length: usi
     match word_content(text, numbering, word, length) {
         Content::Missing => {
             let at = 2 * (word as usize);
-            Missing::Code {
+            Lacks::Code {
                 lead: text[at],
                 trail: text[at + 1],
             }
         }
-        _ => Missing::Nothing,
+        _ => Lacks::Nothing,
     }
 }

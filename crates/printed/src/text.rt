@@ -5,7 +5,7 @@ ghost use lib.ListN.{length};
 ghost use Rattle.printed.specs.Text.{recordAnswer, digit as hexDigit, decimal, shown as shownAs, oneByte, fourBytes, middle, line, endLine, stopLine, lastLine, Put, begunWith, begunAs, Counts, hasRoom};
 
 // A hex digit, in capitals.
-fn digit(d: u8) -> u8
+pub fn digit(d: u8) -> u8
     requires { ⌜ d < 16 ⌝ }
     ensures { λ r. ⌜ r ≡ hexDigit d ⌝ }
 {

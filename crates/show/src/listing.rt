@@ -2,20 +2,14 @@
 use controller::View;
 use drawing::band_end;
 use libc::STDOUT_FILENO;
-use missing::Missing;
+use missing::Lacks;
 use missing::missing_at;
 use picture::shown::shown_row;
+use printed::digit;
 ghost use Prim.Native.Nat.{_<_};
 
-// A hex digit, in capitals.
-fn digit(d: u8) -> u8
-    requires { ⌜ d < 16 ⌝ }
-{
-    if d < 10 { b'0' + d } else { 0x37 + d }
-}
-
 // The line of one code: which it is, and where its cell stands on the glass; answers whether it was written.
-fn print(lead: u8, trail: u8, row: u32, end: u32, cell: u32) -> bool
+fn print_line(lead: u8, trail: u8, row: u32, end: u32, cell: u32) -> bool
     requires { ⌜ row < end ⌝ }
 {
     let code = [
@@ -42,16 +36,16 @@ struct Listed {
 }
 
 // The cells of the line that stands on the glass from `row` up to `end`, from left to right.
-fn list_line(view: View, row: u32, end: u32, text: &[u8; 128], length: usize) -> Listed
+fn list_line(text: &[u8; 128], view: View, row: u32, end: u32, length: usize) -> Listed
     requires { ⌜ (row < 32) × (row < end) ⌝ }
 {
     let mut some = false;
     for cell in 0..16 {
-        match missing_at(view, row, cell, text, length) {
-            Missing::Nothing => {}
-            Missing::Code { lead, trail } => {
+        match missing_at(text, view, row, cell, length) {
+            Lacks::Nothing => {}
+            Lacks::Code { lead, trail } => {
                 some = true;
-                if !print(lead, trail, row, end, cell) {
+                if !print_line(lead, trail, row, end, cell) {
                     return Listed { some, well: false };
                 }
             }
@@ -61,12 +55,12 @@ fn list_line(view: View, row: u32, end: u32, text: &[u8; 128], length: usize) ->
 }
 
 // All of the glass, from the top; answers whether it was written.
-pub(crate) fn list(view: View, text: &[u8; 128], length: usize) -> bool {
+pub(crate) fn list(text: &[u8; 128], view: View, length: usize) -> bool {
     let mut some = false;
     let mut row: u32 = 0;
     while row < 32 {
         let end = band_end(row, shown_row(view, row));
-        let listed = list_line(view, row, end, text, length);
+        let listed = list_line(text, view, row, end, length);
         if !listed.well {
             return false;
         }

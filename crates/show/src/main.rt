@@ -1,4 +1,4 @@
-// Replays a capture and shows the glass: in Braille characters, in plain ones, or as a picture file.
+// Replays a capture and shows the glass: in Braille characters, in plain ones, or as a picture file; and says which glyphs are missing.
 // What is read and written is no matter of a contract; the replay is `playback`'s and the text `frame_view`'s.
 use asked::files;
 use asked::saying;
@@ -36,29 +36,28 @@ fn caption(ended: Ended) {
     io::write_all(STDOUT_FILENO, b"\n");
 }
 
-// A picture file, by the number of the argument that names it; answers whether it was written.
-fn write_picture(at: usize, frame: &[u8; 1024]) -> bool {
+// A picture file, by the number of the argument that names it.
+fn write_picture(at: usize, frame: &[u8; 1024]) {
     let mut name = io::buffer();
     let n = os::arg(at, &mut name);
     let fd = os::open_overwrite(&name[..n]);
     if fd < 0 {
         failed(&name[..n]);
-        return false;
+        return;
     }
     let picture = frame_view::pbm(frame);
-    let written = io::write_all(fd, &picture);
-    if !written {
+    if !io::write_all(fd, &picture) {
         failed(&name[..n]);
     }
     libc::close(fd);
-    written
 }
 
-// The glass, as it is asked for; answers whether it was written.
+// The glass, as it is asked for; answers whether standard output took what there was for it.
 fn picture(asked: Asked, frame: &[u8; 1024], ended: Ended) -> bool {
     let files = asked.files;
     if files.pbm != 0 {
-        return write_picture(files.pbm, frame);
+        write_picture(files.pbm, frame);
+        return true;
     }
     if asked.plain {
         let text = frame_view::plain(frame);
@@ -76,7 +75,7 @@ fn picture(asked: Asked, frame: &[u8; 1024], ended: Ended) -> bool {
 fn list_missing(ended: Ended, length: usize) {
     let panel = ended.panel;
     let control = panel.control;
-    if !listing::list(control.view, &panel.text, length) {
+    if !listing::list(&panel.text, control.view, length) {
         failed(b"standard output");
     }
 }

@@ -1,11 +1,19 @@
 //! Whole draws: the proved code, and plain Rust dot by dot and in its two fast forms, on the same screens.
-use crate::screen::{Fonts, Screen, BY_160, BY_96, CONTROL, DISPLAY, NUMBERING};
+use crate::screen::{Fonts, Screen, BY_160, BY_96, CONTROL, DISPLAY, FULL_FONT_LIMIT, NUMBERING};
 use crate::timing::{in_turn, BATCHES};
 use crate::{blocks, bytewise, dots};
 use std::hint::black_box;
 
-/// Holds plain Rust in its three forms to the proved code: every text word, 32 to a screen, by both numberings.
+/// Holds plain Rust in its three forms to the proved code: every text word, 32 to a screen, by both numberings, with the whole full font and
+/// with its first half, so that glyphs are missing.
 pub fn agree(fonts: &Fonts) {
+    let cut = fonts.cut(FULL_FONT_LIMIT / 64 * 32);
+    for fonts in [fonts, &cut] {
+        agree_with(fonts);
+    }
+}
+
+fn agree_with(fonts: &Fonts) {
     let mut screen = Screen {
         text: [0x20; 128],
         glyph: *fonts.half.first_chunk().expect("2,048 bytes"),
@@ -27,7 +35,8 @@ pub fn agree(fonts: &Fonts) {
             proved::draw(screen.memories(), &mut ours, fonts.lent(false));
             assert!(
                 [by_dot, by_byte, by_block] == [ours; 3],
-                "a plain drawing differs from the proved one: numbering {numbering}, words from {first:04X}"
+                "a plain drawing differs from the proved one: numbering {numbering}, words from {first:04X}, full font of {} bytes",
+                fonts.full.len()
             );
         }
     }

@@ -134,8 +134,9 @@ fn in_place(
 }
 
 /// Holds plain Rust in place to the proved code, so that what is timed does the same: random transfers, half bytes among them, without
-/// time and with it, by either numbering.
+/// time and with it, by either numbering, with the whole full font and with none, so that every full glyph is missing.
 pub fn agree(fonts: &Fonts) {
+    let none = fonts.cut(0);
     let mut random = Random(0x5EED_0009);
     for turn in 0..400 {
         let time = turn >= 200;
@@ -152,7 +153,7 @@ pub fn agree(fonts: &Fonts) {
             }
             capture.extend([0xA5, 0x5A, kind, value]);
         }
-        let lent = fonts.lent(turn % 2 == 1);
+        let lent = if turn / 4 % 2 == 0 { fonts } else { &none }.lent(turn % 2 == 1);
         let mut frames = [[0u8; 1024]; 2];
         let mut panel = Panel::fresh(time, packed);
         let (accepted, last) = in_place(&mut panel, &capture, &mut frames[0], lent);

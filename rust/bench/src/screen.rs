@@ -20,6 +20,14 @@ pub struct Fonts {
 }
 
 impl Fonts {
+    /// With so many bytes of the full font.
+    pub fn cut(&self, length: usize) -> Fonts {
+        Fonts {
+            half: self.half.clone(),
+            full: self.full[..length].to_vec(),
+        }
+    }
+
     pub fn lent(&self, phase: bool) -> Lent<'_> {
         Lent {
             half: &self.half,

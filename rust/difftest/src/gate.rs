@@ -23,47 +23,47 @@ const PINNED: [(&str, &str); 18] = [
     (
         "captures",
         "136986 records, 69895 of them by the new numbering, 140743 whole draws, \
-         10703 with the box of a missing glyph on the glass",
+         10703 glasses with the box of a missing glyph",
     ),
     (
         "damaged captures",
         "6548 records, 3517 of them by the new numbering, 734 refusals, 8240 whole draws, \
-         353 with the box of a missing glyph on the glass",
+         353 glasses with the box of a missing glyph",
     ),
     (
         "records of any kind",
         "6496 records, 3149 of them by the new numbering, 470 refusals, 8236 whole draws, \
-         17 with the box of a missing glyph on the glass",
+         17 glasses with the box of a missing glyph",
     ),
     ("buffers that are refused", "400 refusals, 800 whole draws"),
     (
         "every instruction in every mode over each link",
         "69632 records, 35328 of them by the new numbering, 69632 whole draws, \
-         2033 with the box of a missing glyph on the glass",
+         2033 glasses with the box of a missing glyph",
     ),
     (
         "states made up, drawn",
-        "20000 whole draws, 13497 with the box of a missing glyph on the glass",
+        "20000 whole draws, 13497 glasses with the box of a missing glyph",
     ),
     (
         "every text word, drawn",
-        "8192 whole draws, 657 with the box of a missing glyph on the glass",
+        "8192 whole draws, 657 glasses with the box of a missing glyph",
     ),
     (
         "every length of the full font, drawn",
-        "35208 whole draws, 17152 with the box of a missing glyph on the glass",
+        "35208 whole draws, 17152 glasses with the box of a missing glyph",
     ),
     ("printed lines", "55342 printed lines"),
     (
         "captures with time",
         "151832 records, 73802 of them by the new numbering, 155589 whole draws, \
-         6458 with the box of a missing glyph on the glass, \
+         6458 glasses with the box of a missing glyph, \
          44398 transfers carried out in time, 16581 lost",
     ),
     (
         "damaged captures with time",
         "7055 records, 3233 of them by the new numbering, 734 refusals, 8736 whole draws, \
-         116 with the box of a missing glyph on the glass, \
+         116 glasses with the box of a missing glyph, \
          2076 transfers carried out in time, 793 lost",
     ),
     (
@@ -78,13 +78,14 @@ const PINNED: [(&str, &str); 18] = [
     (
         "every instruction in every mode over each link with time",
         "174080 records, 90112 of them by the new numbering, 174080 whole draws, \
-         4337 with the box of a missing glyph on the glass, \
+         4337 glasses with the box of a missing glyph, \
          29328 transfers carried out in time, 29328 lost",
     ),
     ("printed lines with time", "58664 printed lines"),
     (
         "pairs",
         "453736 bits, 12002 refusals, 975 whole draws, \
+         93 glasses with the box of a missing glyph, \
          5728 transfers on the left panel, 5775 on the right, 3518 on both, \
          4378 transfers carried out in time, 2654 lost",
     ),
@@ -121,7 +122,7 @@ pub fn told(tally: &Tally) -> String {
         (tally.by_new, "of them by the new numbering"),
         (tally.stops, "refusals"),
         (tally.draws, "whole draws"),
-        (tally.boxed, "with the box of a missing glyph on the glass"),
+        (tally.boxed, "glasses with the box of a missing glyph"),
         (tally.lines, "printed lines"),
     ];
     let mut parts: Vec<String> = counts

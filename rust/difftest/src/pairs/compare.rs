@@ -3,7 +3,7 @@ use super::acts::Acts;
 use super::begun::begin;
 use super::kept::{self, not_kept, Kept, NAMES};
 use super::{Pair, Short, Step};
-use crate::compare::{bytes, Tally};
+use crate::compare::{boxed, bytes, Tally};
 use crate::names::{frame_place, state_place};
 use model::{Panel, PanelPair, Selects};
 use proved::{Clock, PairOutcome, CONTROL_AT};
@@ -110,6 +110,8 @@ impl Both<'_> {
     fn not_drawn(&self, tally: &mut Tally) -> Option<String> {
         (0..2).filter(|&side| self.pictures[side]).find_map(|side| {
             tally.draws += 1;
+            let panel = [&self.panels.left, &self.panels.right][side];
+            tally.boxed += u64::from(boxed(panel, &self.pair.cases()[side].full));
             let wrong = self.kept[side].not_drawn(self.pair.cases()[side]);
             wrong.map(|what| format!("at the end, {}: {what}", NAMES[side]))
         })
