@@ -1,18 +1,20 @@
 -- What a cell shows by its code and the font; and that calls look at fonts for the picture alone.
-use Prim.Native.Nat.{ℕ, _+_, _*_, _/_, _≤_, _<_}
+use Prim.Native.Nat.{ℕ, _+_, _*_, _-_, _/_, _%_, _≤_, _<_}
 use mathlib.Core.Bool.{Bool, true, false, _&&_, _||_}
 use mathlib.Core.List.{List, [], _∷_, map}
+use mathlib.Core.Logic.{_≢_}
 use mathlib.Core.Path.{_≡_, refl, ap, ap₂, _∙_}
 use native.Mathlib.Omega.{arith}
-use lib.Dec.{eqb, leb}
+use lib.Dec.{eqb, leb, ltb}
 use lib.ListN.{length}
-use borrow.Author.Tests.{ne-eqb, lt-leb, le-leb}
+use borrow.Author.Tests.{eqb-true, eqb-false, ltb-true, ltb-false, ne-eqb, lt-leb, le-leb}
 use Rattle.base.specs.Choice.{if_then_else_}
-use Rattle.base.proofs.Choice.{either, by-test}
+use Rattle.base.proofs.Choice.{either, either-told, by-test}
 use Rattle.base.proofs.Below.{below, _&_}
 use Rattle.controller.specs.declared.Image as image
 use Rattle.controller.specs.Memories.{half}
-use Rattle.controller.specs.Glass.{imageOf}
+use Rattle.controller.specs.declared.View.{View}
+use Rattle.controller.specs.Glass.{imageOf, shownRow, shownWord}
 use Rattle.events.specs.declared.Event.{Event}
 use Rattle.glyph.specs.declared.Content.{Content}
 use Rattle.glyph.specs.Dots.{boxByte, dotsOf}
@@ -25,10 +27,10 @@ use Rattle.calls.specs.State.{State}
 use Rattle.calls.specs.Calls.{Fits, unlessOther, takenOn, timeless, called}
 use Rattle.calls.proofs.Kept.{admitted, still-fits}
 use Rattle.missing.specs.declared.Lacks.the-variants.{Nothing}
-use Rattle.missing.specs.Missing.{codeIfMissing, missingAt}
+use Rattle.missing.specs.Missing.{bandRow, codeIfMissing, missingAt}
 use Rattle.demands.specs.Wires.{answers}
 use Rattle.demands.specs.Numbered.{leadAt, trailAt, Answered}
-use Rattle.demands.specs.Missing.{dot, butFrame, BoxIsOutermost, BoxWhereMissing, EmptyFontGivesBoxes, BlankWithoutNumber, ImagesNeverMissing, HalvesNeverMissing, FontsShowInPictureAlone, ListedWhereMissing, NotListedWhereFound, NotListedWithoutNumber}
+use Rattle.demands.specs.Missing.{dot, butFrame, BoxIsOutermost, BoxWhereMissing, EmptyFontGivesBoxes, BlankWithoutNumber, ImagesNeverMissing, HalvesNeverMissing, FontsShowInPictureAlone, InBand, EachRowInABand, InNoOtherBand, ShowsAsItsBand, ListedWhereMissing, NotListedWhereFound, NotListedWithoutNumber}
 
 -- the box by its dots: a whole row, and the edge at either side
 
@@ -71,7 +73,57 @@ pub halves-never-missing : HalvesNeverMissing
 unfolding cellByte wordContent contentOf fontOf dotsOf
 halves-never-missing e m v row column none h = rw (none, lt-leb 0xA1 (leadAt (m .text) v row (column / 2)) h)
 
--- listed
+-- the bands of the glass
+
+module _ (v : View) (b : ℕ) where
+  -- what holds of the first row, of a row within the glass, and of its end
+  at-band : (P : ℕ → Type 0) → (b ≡ 0 → P 0) → (1 ≤ b → 16 * b - v .scroll % 16 < 32 → P (16 * b - v .scroll % 16)) → (1 ≤ b → 32 ≤ 16 * b - v .scroll % 16 → P 32)
+      → P (bandRow v b)
+  unfolding bandRow
+  at-band P first within end =
+      either-told P (eqb b 0) (λ e. first (eqb-true b 0 e))
+      (λ e. let n : b ≢ 0 = eqb-false b 0 e in
+      either-told P (ltb (16 * b - v .scroll % 16) 32)
+      (λ t. within (omega arith) (ltb-true (16 * b - v .scroll % 16) 32 t))
+      (λ t. end (omega arith) (ltb-false (16 * b - v .scroll % 16) 32 t)))
+
+pub each-row-in-a-band : EachRowInABand
+each-row-in-a-band v row h =
+    let b : ℕ = (row + v .scroll % 16) / 16 in
+    record {
+      oneOfThree = omega arith;
+      begun = at-band v b (λ r. r ≤ row) (λ z. omega arith) (λ n l. omega arith) (λ n l. omega arith);
+      notEnded = at-band v (b + 1) (λ r. row < r) (λ z. omega arith) (λ n l. omega arith) (λ n l. omega arith);
+    }
+
+module _ (v : View) (row b : ℕ) (h : row < 32) (in-band : InBand v row b) where
+  begun-there : 16 * b ≤ row + v .scroll % 16
+  begun-there =
+      at-band v b (λ r. r ≤ row → 16 * b ≤ row + v .scroll % 16) (λ z l. omega arith) (λ n l m. omega arith) (λ n l m. omega arith) (in-band .begun)
+
+  ended-there : row + v .scroll % 16 < 16 * b + 16
+  ended-there =
+      at-band v (b + 1) (λ r. row < r → row + v .scroll % 16 < 16 * b + 16) (λ z l. omega arith) (λ n l m. omega arith) (λ n l m. omega arith) (in-band .notEnded)
+
+pub in-no-other-band : InNoOtherBand
+in-no-other-band v row b d h p q =
+    let a = begun-there v row b h p in
+    let c = ended-there v row b h p in
+    let e = begun-there v row d h q in
+    let f = ended-there v row d h q in
+    omega arith
+
+pub shows-as-its-band : ShowsAsItsBand
+unfolding shownWord shownRow
+shows-as-its-band v row b cell h p =
+    let a = begun-there v row b h p in
+    let c = ended-there v row b h p in
+    at-band v b (λ r. shownWord v row cell ≡ shownWord v r cell)
+    (λ z. let e : (row + v .scroll) % 64 / 16 ≡ (0 + v .scroll) % 64 / 16 = omega arith in ap (λ (line : ℕ). 16 * line + (cell + v .shift) % 16) e)
+    (λ n l. let e : (row + v .scroll) % 64 / 16 ≡ (16 * b - v .scroll % 16 + v .scroll) % 64 / 16 = omega arith in ap (λ (line : ℕ). 16 * line + (cell + v .shift) % 16) e)
+    (λ n l. absurd (omega arith))
+
+-- what is said of a cell
 
 pub listed-where-missing : ListedWhereMissing
 unfolding missingAt wordContent contentOf fontOf fullOf imageOf codeIfMissing

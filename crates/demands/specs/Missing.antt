@@ -12,7 +12,7 @@ use Rattle.base.specs.Choice.{if_then_else_}
 use Rattle.controller.specs.declared.View.{View}
 use Rattle.controller.specs.declared.Image.the-variants as image
 use Rattle.controller.specs.Memories.{Memories, half}
-use Rattle.controller.specs.Glass.{imageOf, shownRow}
+use Rattle.controller.specs.Glass.{imageOf, shownRow, shownWord}
 use Rattle.events.specs.declared.Event.{Event}
 use Rattle.numbering.specs.declared.Code.the-variants.{Unnumbered, Number}
 use Rattle.glyph.specs.Dots.{imageByte, halfByte, boxByte}
@@ -20,7 +20,7 @@ use Rattle.picture.specs.Picture.{Fonts, Seen, right, cellByte}
 use Rattle.calls.specs.State.{State}
 use Rattle.calls.specs.Calls.{Called, Fits}
 use Rattle.missing.specs.declared.Lacks.the-variants as lacks
-use Rattle.missing.specs.Missing.{missingAt}
+use Rattle.missing.specs.Missing.{bandRow, missingAt}
 use Rattle.demands.specs.Wires.{answers}
 use Rattle.demands.specs.Numbered.{leadAt, trailAt, codeAt, Answered}
 
@@ -87,8 +87,24 @@ FontsShowInPictureAlone =
     → Fits f other
     → map butFrame (answers e s frame calls) ≡ map butFrame (answers f s other calls)
 
--- 7. What is said of a cell by which `show --missing` makes its list: its code where its glyph is missing, and nothing elsewhere. (That the
--- list goes over all of the glass is tested, not stated.)
+-- row `row` of the glass lies in band b
+pub record InBand (v : View) (row b : ℕ) : Type 0 where
+  pub oneOfThree : b < 3
+  pub begun : bandRow v b ≤ row
+  pub notEnded : row < bandRow v (b + 1)
+
+-- 7. Each row of the glass lies in one band and in no other, and its cells show the words that the band's first row shows: three bands of
+-- sixteen cells, by which `show --missing` makes its list, are all of the glass.
+abbrev pub EachRowInABand : Type 0
+EachRowInABand = (v : View) (row : ℕ) → row < 32 → InBand v row ((row + v .scroll % 16) / 16)
+
+abbrev pub InNoOtherBand : Type 0
+InNoOtherBand = (v : View) (row b d : ℕ) → row < 32 → InBand v row b → InBand v row d → b ≡ d
+
+abbrev pub ShowsAsItsBand : Type 0
+ShowsAsItsBand = (v : View) (row b cell : ℕ) → row < 32 → InBand v row b → shownWord v row cell ≡ shownWord v (bandRow v b) cell
+
+-- 8. What is said of a cell there: its code where its glyph is missing, and nothing elsewhere.
 abbrev pub ListedWhereMissing : Type 0
 ListedWhereMissing =
     (v : View) (size : ℕ) (text : List ℕ) (row cell i : ℕ)

@@ -4,5 +4,4 @@ mod afresh;
 mod whole;
 
 pub use afresh::draw;
-pub use whole::band_end;
 pub use whole::paint_whole;

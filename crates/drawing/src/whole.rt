@@ -80,7 +80,7 @@ fn overlay_if(graphic: &[u8; 2048], from: usize, frame: &mut [u8], to: usize, co
 }
 
 // The row after those that show the same line as row `row`, which shows memory row s.
-pub fn band_end(row: u32, s: u32) -> u32
+fn band_end(row: u32, s: u32) -> u32
     requires { ⌜ row < 32 ⌝ }
     ensures within { λ r. ⌜ (row < r) × (r ≤ 32) × (r + s % 16 ≤ row + 16) ⌝ }
     ensures { λ r. ⌜ r ≡ bandEnd row s ⌝ }

@@ -4,13 +4,27 @@ use glyph::Content;
 use picture::shown::shown_word;
 use picture::shown::word_content;
 ghost use mathlib.Core.Path.{_≡_};
-ghost use Prim.Native.Nat.{_<_};
-ghost use Rattle.missing.specs.Missing.{missingAt};
+ghost use Prim.Native.Nat.{_<_, _≤_};
+ghost use Rattle.missing.specs.Missing.{bandRow, missingAt};
 
 // What a cell lacks: the glyph of a code of two bytes, or nothing.
 pub enum Lacks {
     Nothing,
     Code { lead: u8, trail: u8 },
+}
+
+// The first row of a band, the rows of the glass that show one line of text; 32 where the glass ends before it. Scrolling may cut the first
+// band and the last of three.
+pub fn band_row(view: View, band: u32) -> u32
+    requires { ⌜ band ≤ 3 ⌝ }
+    ensures within { λ r. ⌜ r ≤ 32 ⌝ }
+    ensures { λ r. ⌜ r ≡ bandRow view band ⌝ }
+{
+    if band == 0 {
+        return 0;
+    }
+    let row = 16 * band - view.scroll as u32 % 16;
+    if row < 32 { row } else { 32 }
 }
 
 // What a cell of a row of the glass lacks, with a full font of `length` bytes.

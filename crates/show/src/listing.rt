@@ -1,10 +1,9 @@
 // Which codes of the present screen have no glyph in the lent font, and where: a line of text for each.
 use controller::View;
-use drawing::band_end;
 use libc::STDOUT_FILENO;
 use missing::Lacks;
+use missing::band_row;
 use missing::missing_at;
-use picture::shown::shown_row;
 use printed::digit;
 ghost use Prim.Native.Nat.{_<_};
 
@@ -54,20 +53,21 @@ fn list_line(text: &[u8; 128], view: View, row: u32, end: u32, length: usize) ->
     Listed { some, well: true }
 }
 
-// All of the glass, from the top; answers whether it was written.
+// All of the glass, band by band from the top; answers whether it was written.
 pub(crate) fn list(text: &[u8; 128], view: View, length: usize) -> bool {
     let mut some = false;
-    let mut row: u32 = 0;
-    while row < 32 {
-        let end = band_end(row, shown_row(view, row));
-        let listed = list_line(text, view, row, end, length);
-        if !listed.well {
-            return false;
+    for band in 0..3 {
+        let row = band_row(view, band);
+        let end = band_row(view, band + 1);
+        if row < end {
+            let listed = list_line(text, view, row, end, length);
+            if !listed.well {
+                return false;
+            }
+            if listed.some {
+                some = true;
+            }
         }
-        if listed.some {
-            some = true;
-        }
-        row = end;
     }
     some || io::write_all(STDOUT_FILENO, b"no glyph is missing\n")
 }

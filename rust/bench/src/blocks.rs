@@ -10,7 +10,7 @@ type Row = [u64; 4];
 
 const BLANK: Tile = [0; 32];
 /// What a glyph that is missing shows.
-const BOX: Tile = {
+pub const BOX: Tile = {
     let mut tile = [0; 32];
     let mut y = 0;
     while y < 16 {

@@ -1,6 +1,6 @@
 //! The picture in plain Rust, as fast as we could write it: each cell's sixteen rows are laid out once, where whole vectors of bytes
 //! can be inverted at a time, then handed out row by row, and the graphic laid over a row of 32 bytes at a time.
-use crate::blocks::Look;
+use crate::blocks::{Look, BOX};
 use crate::state::*;
 
 /// A cell: sixteen rows of two bytes.
@@ -17,12 +17,11 @@ fn half(f: Look<'_>, code: u8) -> &[u8; 16] {
 
 /// Sixteen rows of two bytes that lie together, the box of a missing glyph where they do not.
 fn pairs(bytes: &[u8], at: usize) -> Tile {
-    let mut tile = [[0x80, 0x01]; 16];
-    tile[0] = [0xFF; 2];
-    tile[15] = [0xFF; 2];
-    if let Some(bytes) = bytes.get(at..at + 32) {
-        tile.as_flattened_mut().copy_from_slice(bytes);
-    }
+    let Some(bytes) = bytes.get(at..at + 32) else {
+        return *BOX.as_chunks().0.as_array().expect("sixteen rows");
+    };
+    let mut tile = [[0; 2]; 16];
+    tile.as_flattened_mut().copy_from_slice(bytes);
     tile
 }
 

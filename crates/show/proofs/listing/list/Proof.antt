@@ -1,4 +1,4 @@
--- The rows left fall, as each line ends below where it begins.
+-- The bands left fall.
 use Prim.{Unit}
 use Prim.Native.Nat.{_-_}
 use borrow.Author.Needs.{needs}
@@ -6,10 +6,10 @@ use Rattle.show.proofs.listing.list.Statement.{statement}
 use Rattle.show.proofs.listing.list.Tie as tie
 
 abbrev Inv-loop : tie.InvT-loop
-Inv-loop view text length some₀ row₀ t8 some row = Unit {0}
+Inv-loop text view length some₀ band₀ t9 some band = Unit {0}
 
 abbrev μ-loop : tie.MeasureT-loop
-μ-loop view text length some₀ row₀ t8 some row = 32 - row
+μ-loop text view length some₀ band₀ t9 some band = 3 - band
 
 pub list-spec : {M : Type 1} → statement M
 list-spec =
@@ -19,9 +19,9 @@ list-spec =
     μ-loop
     (λ c. search needs)
     (λ c κs. search needs)
-    (λ c κs. search needs)
-    (λ c κs. search needs)
     (λ c. search needs)
+    (λ c κs. search needs)
+    (λ c κs. search needs)
     (λ c. search needs)
     (λ c. search needs)
     (λ c. search needs)
