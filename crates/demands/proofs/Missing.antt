@@ -7,7 +7,7 @@ use mathlib.Core.Path.{_≡_, refl, ap, ap₂, _∙_}
 use native.Mathlib.Omega.{arith}
 use lib.Dec.{eqb, leb, ltb}
 use lib.ListN.{length}
-use borrow.Author.Tests.{eqb-true, eqb-false, ltb-true, ltb-false, ne-eqb, lt-leb, le-leb}
+use borrow.Author.Tests.{eqb-true, eqb-false, ltb-true, ltb-false, lt-leb, le-leb}
 use Rattle.base.specs.Choice.{if_then_else_}
 use Rattle.base.proofs.Choice.{either, either-told, by-test}
 use Rattle.base.proofs.Below.{below, _&_}
@@ -19,7 +19,6 @@ use Rattle.events.specs.declared.Event.{Event}
 use Rattle.glyph.specs.declared.Content.{Content}
 use Rattle.glyph.specs.Dots.{boxByte, dotsOf}
 use Rattle.glyph.specs.Lookup.{fullOf, fontOf, imageOr, contentOf}
-use Rattle.numbering.proofs.Numbers.{numbered-lead}
 use Rattle.links.specs.declared.Taken.{Taken}
 use Rattle.links.specs.declared.Taken.the-variants.{OtherLink, Carries}
 use Rattle.picture.specs.Picture.{Seen, wordContent, cellByte}
@@ -29,6 +28,7 @@ use Rattle.calls.proofs.Kept.{admitted, still-fits}
 use Rattle.missing.specs.declared.Lacks.the-variants.{Nothing}
 use Rattle.missing.specs.Missing.{bandRow, codeIfMissing, missingAt}
 use Rattle.demands.specs.Wires.{answers}
+use Rattle.demands.proofs.Numbered.{by-code, by-number}
 use Rattle.demands.specs.Numbered.{leadAt, trailAt, Answered}
 use Rattle.demands.specs.Missing.{dot, butFrame, BoxIsOutermost, BoxWhereMissing, EmptyFontGivesBoxes, BlankWithoutNumber, ImagesNeverMissing, HalvesNeverMissing, FontsShowInPictureAlone, InBand, EachRowInABand, InNoOtherBand, ShowsAsItsBand, ListedWhereMissing, NotListedWhereFound, NotListedWithoutNumber}
 
@@ -48,22 +48,19 @@ pub box-is-outermost : BoxIsOutermost
 unfolding boxByte
 box-is-outermost y low x h = by-test (eqb y 0 || eqb y 15) (λ t. rw t (row-dots x h)) (λ t. rw t (edge-dots low x h))
 
--- no image, by the font, and not inside it
+-- the number's glyph, not inside the font
 pub box-where-missing : BoxWhereMissing
-unfolding cellByte wordContent contentOf fontOf fullOf imageOf dotsOf
+unfolding cellByte wordContent fullOf dotsOf
 box-where-missing e m v row column i is outside =
-    let high : ℕ = leadAt (m .text) v row (column / 2) in
-    let lead : 0xA1 ≤ high = numbered-lead (v .numbering) high _ i is in
-    rw (ne-eqb high 0x00 (λ z. omega arith), le-leb 0xA1 high lead, is, lt-leb (32 * i + 32) (length (e .full)) outside)
+    rw (by-number (v .numbering) _ _ (length (e .full)) i is, lt-leb (32 * i + 32) (length (e .full)) outside)
 
 pub empty-font-gives-boxes : EmptyFontGivesBoxes
 empty-font-gives-boxes half m v row column i is = box-where-missing _ m v row column i is (omega arith)
 
 pub blank-without-number : BlankWithoutNumber
-unfolding cellByte wordContent contentOf fontOf fullOf imageOf dotsOf
+unfolding cellByte wordContent fullOf dotsOf
 blank-without-number e m v row column lead is =
-    let high : ℕ = leadAt (m .text) v row (column / 2) in
-    rw (ne-eqb high 0x00 (λ z. omega arith), le-leb 0xA1 high lead, is)
+    rw (by-code (v .numbering) (leadAt (m .text) v row (column / 2)) _ (length (e .full)) lead, is)
 
 pub images-never-missing : ImagesNeverMissing
 unfolding cellByte wordContent contentOf dotsOf
@@ -126,18 +123,12 @@ shows-as-its-band v row b cell h p =
 -- what is said of a cell
 
 pub listed-where-missing : ListedWhereMissing
-unfolding missingAt wordContent contentOf fontOf fullOf imageOf codeIfMissing
-listed-where-missing v size text row cell i is outside =
-    let high : ℕ = leadAt text v row cell in
-    let lead : 0xA1 ≤ high = numbered-lead (v .numbering) high _ i is in
-    rw (ne-eqb high 0x00 (λ z. omega arith), le-leb 0xA1 high lead, is, lt-leb (32 * i + 32) size outside)
+unfolding missingAt wordContent fullOf codeIfMissing
+listed-where-missing v size text row cell i is outside = rw (by-number (v .numbering) _ _ size i is, lt-leb (32 * i + 32) size outside)
 
 pub not-listed-where-found : NotListedWhereFound
-unfolding missingAt wordContent contentOf fontOf fullOf imageOf codeIfMissing
-not-listed-where-found v size text row cell i is inside =
-    let high : ℕ = leadAt text v row cell in
-    let lead : 0xA1 ≤ high = numbered-lead (v .numbering) high _ i is in
-    rw (ne-eqb high 0x00 (λ z. omega arith), le-leb 0xA1 high lead, is, le-leb (32 * i + 32) size inside)
+unfolding missingAt wordContent fullOf codeIfMissing
+not-listed-where-found v size text row cell i is inside = rw (by-number (v .numbering) _ _ size i is, le-leb (32 * i + 32) size inside)
 
 pub not-listed-without-number : NotListedWithoutNumber
 unfolding missingAt wordContent contentOf fontOf fullOf imageOf codeIfMissing

@@ -111,13 +111,19 @@ unfolding contentOf fontOf
 end-not-asked-for high low size h l =
     ap (λ (c : Content). imageOr (imageOf high low) (if leb 0xA1 high then c else Halves high low)) (full-alike high low size (numberOf By96 high low) h l refl)
 
--- the number's glyph: no image, by the font, and inside it
+-- a word from A1h on is no image, and goes by its code; one that has a number is such a word
+pub by-code : (n : Numbering) (high low size : ℕ) → 0xA1 ≤ high → contentOf n high low size ≡ fullOf (numberOf n high low) size
+unfolding contentOf fontOf imageOf
+by-code n high low size lead = rw (ne-eqb high 0x00 (λ z. omega arith), le-leb 0xA1 high lead)
+
+pub by-number : (n : Numbering) (high low size i : ℕ) → numberOf n high low ≡ Number i → contentOf n high low size ≡ fullOf (Number i) size
+by-number n high low size i is = by-code n high low size (numbered-lead n high low i is) ∙ ap (λ (c : Code). fullOf c size) is
+
+-- the number's glyph, inside the font
 pub shown-by-number : ShownByNumber
-unfolding cellByte wordContent contentOf fontOf fullOf imageOf dotsOf
+unfolding cellByte wordContent fullOf dotsOf
 shown-by-number e m v row column i is inside =
-    let high : ℕ = getD (m .text) (wordPlace (shownWord v row (column / 2)) false) 0 in
-    let lead : 0xA1 ≤ high = numbered-lead (v .numbering) high _ i is in
-    rw (ne-eqb high 0x00 (λ z. omega arith), le-leb 0xA1 high lead, is, le-leb (32 * i + 32) (length (e .full)) inside, half-right column)
+    rw (by-number (v .numbering) _ _ (length (e .full)) i is, le-leb (32 * i + 32) (length (e .full)) inside, half-right column)
 
 -- deeds
 
