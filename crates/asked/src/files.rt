@@ -5,7 +5,7 @@ ghost use Rattle.io.specs.Counts.{IsPrefixLen};
 use crate::saying::{failed, wrong_length};
 
 // How many bytes came, and whether that went well; where it did not, it has been said.
-#[derive(Drop)]
+#[derive(Clone, Copy)]
 pub struct Loaded {
     pub count: usize,
     pub well: bool,

@@ -4,7 +4,7 @@ use check::same;
 use libc::STDERR_FILENO;
 
 // Files, each by the number of the argument that names it; 0 where none does, since that is the program's own name.
-#[derive(Drop)]
+#[derive(Clone, Copy)]
 pub struct Files {
     pub capture: usize,
     pub half: usize,
@@ -13,7 +13,7 @@ pub struct Files {
 }
 
 // An option whose value is the next word.
-#[derive(Drop)]
+#[derive(Clone, Copy)]
 pub enum Waits {
     Nothing,
     Half,
@@ -23,7 +23,7 @@ pub enum Waits {
     Records,
 }
 
-#[derive(Drop)]
+#[derive(Clone, Copy)]
 pub struct Asked {
     pub files: Files,
     pub records: u64,
@@ -38,7 +38,7 @@ pub struct Asked {
 }
 
 // A number, or none where the text is none or has more than 64 bits.
-#[derive(Drop)]
+#[derive(Clone, Copy)]
 enum Parsed {
     Number(u64),
     Nothing,

@@ -1,1 +1,2 @@
 // General definitions and laws that every other crate cites. No code.
+#![tactic(auto)]

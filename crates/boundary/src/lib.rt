@@ -1,5 +1,7 @@
 // Functions for C or Rust to link: numbers and byte slices alone cross the border. A state crosses it as 2,341 bytes, and its controls
 // alone as 27 of them. Nothing is asked of a caller. Two panels on one wire are in `pair.rt`.
+#![tactic(auto)]
+
 mod pair;
 
 ghost use Rattle.std.specs.Prelude.{◌≡◌};
@@ -20,6 +22,7 @@ use unpacking::unpack;
 
 // Draws the picture of a state into the frame, and answers 0 or the refusal's number.
 #[unsafe(no_mangle)]
+#[tactic(auto, unfolding(picture::specs::Refusals::drawn, state_bytes::specs::Packed::unpacked))]
 pub extern "C" fn zifqarell_draw(
     text: &[u8; 128],
     glyph: &[u8; 128],
@@ -38,6 +41,7 @@ pub extern "C" fn zifqarell_draw(
 
 // Puts the three bytes that carry a write over the serial link into the buffer, and answers 0 or the refusal's number.
 #[unsafe(no_mangle)]
+#[tactic(auto, unfolding(sender::specs::Sender::sent))]
 pub extern "C" fn zifqarell_send(register: bool, byte: u8, buffer: &mut [u8]) -> u8
     ensures { leaving result buffer.new ≡ sent register byte buffer.old }
 {
@@ -48,6 +52,7 @@ pub extern "C" fn zifqarell_send(register: bool, byte: u8, buffer: &mut [u8]) ->
 // that stopped, 0 at the end of the capture. Leaves the state in which the panel then is, and the place with what the last accepted
 // record answered. Refused with 1, 2 or 3 it leaves all that it was lent.
 #[unsafe(no_mangle)]
+#[tactic(auto, unfolding(crate::specs::Report::fresh_replay))]
 pub extern "C" fn zifqarell_replay(
     parallel: bool,
     time: bool,

@@ -1,6 +1,8 @@
 // Two panels on one wire: reads a recorded wire from standard input, and shows both glasses. A byte is a clock, as a recorder with eight
 // inputs stores it: input 0 is the data line, input 1 the left panel's select, input 2 the right's; the others are not looked at.
 // What is read and written is no matter of a contract; what the panels do is `pair`'s, and the text `frame_view`'s.
+#![tactic(auto)]
+
 ghost use Rattle.std.specs.Prelude.{◌≤◌, length};
 ghost use Rattle.calls.specs.State.{Valid};
 ghost use Rattle.panel.specs.Handed.{state_of};
@@ -12,7 +14,7 @@ use pair::Pair;
 use panel::Panel;
 
 // The pair, how many clocks it has had, whether the wire may go on, and whether all could be read.
-#[derive(Drop)]
+#[derive(Clone, Copy)]
 struct Heard {
     pub pair: Pair,
     pub clocks: u64,
@@ -21,7 +23,7 @@ struct Heard {
 }
 
 // A wire heard: its clocks, and whether all could be read.
-#[derive(Drop)]
+#[derive(Clone, Copy)]
 struct Wire {
     pub clocks: u64,
     pub well: bool,

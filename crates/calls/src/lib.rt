@@ -1,5 +1,7 @@
 // One call for every event, on memories that a board keeps and lends. It refuses bad input itself, carries out what it was given,
 // repaints the bytes that this names, and answers with its reply and the number of bytes named.
+#![tactic(auto)]
+
 use controller::Control;
 use links::Link;
 
@@ -8,7 +10,7 @@ mod calls;
 pub use calls::call;
 
 // What a call answers: controls and link as they are next, the refusal number, the reply and the number of bytes named.
-#[derive(Drop)]
+#[derive(Clone, Copy)]
 pub struct LentOutcome {
     pub control: Control,
     pub link: Link,

@@ -1,10 +1,12 @@
 // Captures: the record at the beginning of a capture, or of a part of one, and what an answer is to a panel.
+#![tactic(auto)]
+
 ghost use Rattle.std.specs.Prelude.{◌≡◌};
 ghost use Rattle.capture.specs.Kinds.{known, kind_of, allowed};
 ghost use Rattle.capture.specs.Record.{marked, read_first, number, taken_with};
 
 // What stands in a capture: a record with its two numbers, or why there is none: a refusal, by its number, or the capture's end.
-#[derive(Drop)]
+#[derive(Clone, Copy)]
 pub enum Answer {
     Record { kind: u8, value: u8 },
     Refused(u8),
@@ -52,6 +54,7 @@ fn known(kind: u8) -> bool
 }
 
 // Which values a kind takes.
+#[tactic(auto, unfolding(crate::specs::Kinds::kind_of))]
 fn allowed(kind: u8, value: u8) -> bool
     ensures { result ≡ allowed (kind_of kind) value }
 {
@@ -64,6 +67,7 @@ fn allowed(kind: u8, value: u8) -> bool
 
 // Reads the record at the beginning of a capture, or of the part of one that it is given. Kind 7 is a record here; `taken_with` says what it
 // is to a panel.
+#[tactic(auto, unfolding(crate::specs::Record::read_first))]
 pub fn read(capture: &[u8]) -> Answer
     ensures { result ≡ read_first capture.now }
 {

@@ -46,6 +46,7 @@ impl View {
 
 impl Control {
     // The controls of a panel that has just been made.
+    #[tactic(auto, unfolding(crate::specs::State::fresh_control))]
     pub fn fresh(made: Made) -> Control
         ensures { result ≡ fresh_control made }
     {

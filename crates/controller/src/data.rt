@@ -10,6 +10,7 @@ use crate::{Control, Place, Waiting};
 use table::Target;
 
 // The byte goes into the next half of the target's memory.
+#[tactic(auto, unfolding(crate::specs::Data::stored))]
 pub fn store(
     text: &mut [u8; 128],
     glyph: &mut [u8; 128],
@@ -39,6 +40,7 @@ pub fn store(
 }
 
 // The next half of the target's memory.
+#[tactic(auto, unfolding(crate::specs::Data::found))]
 pub fn find(text: &[u8; 128], glyph: &[u8; 128], graphic: &[u8; 2048], control: Control) -> u8
     requires { InRange control }
     ensures { result ≡ found control.place.target control.place (before text glyph graphic) }
@@ -87,6 +89,7 @@ impl Place {
     }
 
     // The place after a half has been written or read.
+    #[tactic(auto, unfolding(crate::specs::Data::moved))]
     fn moved(self, id: bool) -> Place
         requires { self.counter < limit self.target }
         ensures { result ≡ moved id self }
@@ -130,6 +133,7 @@ impl Control {
     }
 
     // The controls after a half has been written or read.
+    #[tactic(auto, unfolding(crate::specs::Data::moved_on))]
     pub fn moved_on(self) -> Control
         requires { InRange self }
         ensures { result ≡ moved_on self }

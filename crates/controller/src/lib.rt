@@ -1,6 +1,8 @@
 // The controller: all of the panel's state but the link, after document 01's "Memories and flags", and what data transfers do to it.
 // The definitions of what instructions do stand here too; the code that does it is the crate `instructions`.
 // The three memories are arrays that the caller lends; everything else is `Control`, which goes in and comes back by value.
+#![tactic(auto)]
+
 use events::Numbering;
 use table::Target;
 
@@ -10,14 +12,14 @@ pub mod named;
 pub mod places;
 
 // A graphic row that waits for its column.
-#[derive(Drop)]
+#[derive(Clone, Copy)]
 pub enum Waiting {
     Nothing,
     Row(u8),
 }
 
 // Where the next data transfer goes.
-#[derive(Drop)]
+#[derive(Clone, Copy)]
 pub struct Place {
     pub target: Target,
     pub counter: u8,
@@ -30,14 +32,14 @@ pub struct Place {
 }
 
 // I/D and S.
-#[derive(Drop)]
+#[derive(Clone, Copy)]
 pub struct Entry {
     pub id: bool,
     pub s: bool,
 }
 
 // Display, cursor and blink.
-#[derive(Drop)]
+#[derive(Clone, Copy)]
 pub struct Shown {
     pub display: bool,
     pub cursor: bool,
@@ -45,7 +47,7 @@ pub struct Shown {
 }
 
 // DL, RE and G: what a function set speaks of.
-#[derive(Drop)]
+#[derive(Clone, Copy)]
 pub struct Function {
     pub dl: bool,
     pub re: bool,
@@ -53,7 +55,7 @@ pub struct Function {
 }
 
 // How the glass looks at the memories, and at the full font.
-#[derive(Drop)]
+#[derive(Clone, Copy)]
 pub struct View {
     pub scroll: u8,
     pub shift: u8,
@@ -62,13 +64,13 @@ pub struct View {
 }
 
 // Whether the panel has time, and for how many microseconds it is busy yet.
-#[derive(Drop)]
+#[derive(Clone, Copy)]
 pub struct Time {
     pub timed: bool,
     pub remaining: u16,
 }
 
-#[derive(Drop)]
+#[derive(Clone, Copy)]
 pub struct Control {
     pub place: Place,
     pub entry: Entry,
@@ -81,21 +83,21 @@ pub struct Control {
 }
 
 // What a text word shows of glyph memory: an image, or none.
-#[derive(Drop)]
+#[derive(Clone, Copy)]
 pub enum Image {
     Nothing,
     Number(u8),
 }
 
 // A text word's cell, or none: the counter has one only where the target is text.
-#[derive(Drop)]
+#[derive(Clone, Copy)]
 pub enum Cell {
     Nowhere,
     Word(u8),
 }
 
 // Which bytes of the glass a transfer names.
-#[derive(Drop)]
+#[derive(Clone, Copy)]
 pub enum Region {
     Nothing,
     Whole,

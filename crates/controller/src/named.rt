@@ -7,6 +7,7 @@ use crate::{Cell, Control, Image, Place, Region, Waiting};
 use table::{Target, Touch};
 
 // Words 0000h..000Fh show an image of glyph memory.
+#[tactic(auto, unfolding(crate::specs::Glass::image_of))]
 pub fn image(high: u8, low: u8) -> Image
     ensures { result ≡ image_of high low }
 {
@@ -68,6 +69,7 @@ fn touch_names(touch: Touch, before: Place, after: Place) -> Region
     }
 }
 
+#[tactic(auto, unfolding(crate::specs::Named::instruction_names))]
 pub fn instruction_names(before: Control, after: Control, touch: Touch) -> Region
     ensures { result ≡ instruction_names before after touch }
 {
@@ -107,6 +109,7 @@ fn write_by_target(before: Place, after: Place) -> Region
     }
 }
 
+#[tactic(auto, unfolding(crate::specs::Named::write_names))]
 pub fn write_names(before: Control, after: Control) -> Region
     ensures { result ≡ write_names before after }
 {
@@ -118,6 +121,7 @@ pub fn write_names(before: Control, after: Control) -> Region
     write_by_target(from, to)
 }
 
+#[tactic(auto, unfolding(crate::specs::Named::read_names))]
 pub fn read_names(before: Control, after: Control) -> Region
     ensures { result ≡ read_names before after }
 {

@@ -1,4 +1,6 @@
 // What reaches the controller is done here, and nowhere else: each transfer whole, reset, and time that passes, on lent memories.
+#![tactic(auto)]
+
 ghost use Rattle.std.specs.Prelude.{◌≡◌, List, ℕ};
 ghost use Rattle.controller.specs.Memories.{memories, before, after};
 ghost use Rattle.controller.specs.State.{InRange};
@@ -14,7 +16,7 @@ use table::Touch;
 use time::{busy_bit, charged, cost, elapsed, is_lost};
 
 // What a transfer leaves beside the memories: the next controls, the reply, and what it names.
-#[derive(Drop)]
+#[derive(Clone, Copy)]
 pub struct Done {
     pub control: Control,
     pub reply: u8,
@@ -36,6 +38,7 @@ fn clear(text: &mut [u8; 128], touch: Touch)
 }
 
 // An instruction write. It is lent the text alone: whatever the other two memories hold, they stay.
+#[tactic(auto, unfolding(crate::specs::Transfers::executed))]
 fn execute(text: &mut [u8; 128], control: Control, byte: u8) -> Done
     requires { InRange control }
     ensures by_index { (glyph graphic : List ℕ) → acted (memories text.new glyph graphic) result ≡ executed (memories text.old glyph graphic) control byte }
@@ -54,6 +57,7 @@ fn execute(text: &mut [u8; 128], control: Control, byte: u8) -> Done
 }
 
 // A data write: the byte goes into the next half.
+#[tactic(auto, unfolding(crate::specs::Transfers::written))]
 fn write(
     text: &mut [u8; 128],
     glyph: &mut [u8; 128],
@@ -76,6 +80,7 @@ fn write(
 }
 
 // A data read: 0 if a dummy is due, else the next half.
+#[tactic(auto, unfolding(crate::specs::Transfers::read_out))]
 fn read(text: &[u8; 128], glyph: &[u8; 128], graphic: &[u8; 2048], control: Control) -> Done
     requires { InRange control }
     ensures value { result ≡ read_out (before text glyph graphic) control }
@@ -101,6 +106,7 @@ fn read(text: &[u8; 128], glyph: &[u8; 128], graphic: &[u8; 2048], control: Cont
 }
 
 // A status read: the busy bit and the counter, and nothing changes.
+#[tactic(auto, unfolding(crate::specs::Transfers::status_read))]
 fn status(control: Control) -> Done
     requires { InRange control }
     ensures { result ≡ status_read control }
@@ -113,6 +119,7 @@ fn status(control: Control) -> Done
 }
 
 // A whole transfer.
+#[tactic(auto, unfolding(crate::specs::Transfers::carried_out))]
 fn carry_out(
     text: &mut [u8; 128],
     glyph: &mut [u8; 128],
@@ -155,6 +162,7 @@ fn at_cost(done: Done, cost: u16) -> Done
 
 // A transfer that would act: lost while busy, else carried out at its cost. A panel without time is spared the cost; there is one place where
 // transfers are carried out, so that a compiler can put all of it here.
+#[tactic(auto, unfolding(crate::specs::Transfers::on_time))]
 fn on_time(
     text: &mut [u8; 128],
     glyph: &mut [u8; 128],
@@ -195,6 +203,7 @@ fn restart(
 }
 
 // What of an event reaches the controller.
+#[tactic(auto, unfolding(crate::specs::Transfers::performed))]
 pub fn perform(
     text: &mut [u8; 128],
     glyph: &mut [u8; 128],

@@ -10,6 +10,7 @@ use picture::looks::look;
 use picture::refusals::refusal;
 
 // Draws into the frame and answers 0, or answers the refusal's number and drawing the frame as it was.
+#[tactic(auto, unfolding(picture::specs::Refusals::drawn))]
 pub fn draw(
     text: &[u8; 128],
     glyph: &[u8; 128],

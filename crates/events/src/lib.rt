@@ -1,8 +1,9 @@
 // What comes to the panel, and what of it reaches the controller.
+#![tactic(auto)]
 
 // A transfer on the parallel connector, a write with what it puts on the wires. A register of `false` means instructions
 // and status, `true` means data.
-#[derive(Drop)]
+#[derive(Clone, Copy)]
 pub enum Transfer {
     Instruct(u8),
     Write(u8),
@@ -11,14 +12,14 @@ pub enum Transfer {
 }
 
 // How codes of two bytes are numbered in the full font: 96 to a lead, or 160.
-#[derive(Drop)]
+#[derive(Clone, Copy)]
 pub enum Numbering {
     By96,
     By160,
 }
 
 // What a panel is made with: its link, whether it has time, and its numbering.
-#[derive(Drop)]
+#[derive(Clone, Copy)]
 pub struct Made {
     pub parallel: bool,
     pub time: bool,
@@ -26,7 +27,7 @@ pub struct Made {
 }
 
 // What reset is given: the interface pin, and the numbering that it chooses.
-#[derive(Drop)]
+#[derive(Clone, Copy)]
 pub struct Pin {
     pub parallel: bool,
     pub numbering: Numbering,
@@ -34,7 +35,7 @@ pub struct Pin {
 
 // What comes to the panel: a transfer of the parallel link, a bit of the serial one with chip select high, chip select low, reset, or
 // that so many times 8 microseconds passed.
-#[derive(Drop)]
+#[derive(Clone, Copy)]
 pub enum Event {
     Transfer(Transfer),
     Bit(bool),
@@ -44,7 +45,7 @@ pub enum Event {
 }
 
 // What of an event reaches the controller.
-#[derive(Drop)]
+#[derive(Clone, Copy)]
 pub enum Deed {
     Nothing,
     Whole(Transfer),

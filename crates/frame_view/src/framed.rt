@@ -5,6 +5,7 @@ ghost use Rattle.frame_view.specs.Braille.{three_down, braille_at, line_of, char
 use crate::dots::dot;
 
 // Three dots, from column x of row y down.
+#[tactic(auto, unfolding(crate::specs::Braille::three_down))]
 fn three_down(frame: &[u8; 1024], x: usize, y: usize) -> u16
     requires { (x < 256) × (y + 2 < 32) }
     ensures value { result ≡ three_down frame.now x y }
@@ -14,6 +15,7 @@ fn three_down(frame: &[u8; 1024], x: usize, y: usize) -> u16
 }
 
 // The Braille character whose upper left dot is at column x of row y.
+#[tactic(auto, unfolding(crate::specs::Braille::braille_at))]
 fn cell(frame: &[u8; 1024], x: usize, y: usize) -> u16
     requires { (x + 1 < 256) × (y + 3 < 32) }
     ensures { result ≡ braille_at frame.now x y }
@@ -37,6 +39,7 @@ fn line_of(left: u16, middle: u16, right: u16, column: usize) -> u16
 }
 
 // The character at a column of a line.
+#[tactic(auto, unfolding(crate::specs::Braille::character))]
 fn character(frame: &[u8; 1024], line: usize, column: usize) -> u16
     requires { (line < 10) × (column < 130) }
     ensures { result ≡ characterAt frame.now line column }
@@ -57,6 +60,7 @@ fn character(frame: &[u8; 1024], line: usize, column: usize) -> u16
 }
 
 // Byte n of a character in UTF-8.
+#[tactic(auto, unfolding(crate::specs::Braille::utf8))]
 fn utf8(c: u16, n: usize) -> u8
     ensures { result ≡ utf8Of c n }
 {
@@ -70,6 +74,7 @@ fn utf8(c: u16, n: usize) -> u8
 }
 
 // Byte i of the text.
+#[tactic(auto, unfolding(crate::specs::Braille::text_at))]
 fn text_byte(frame: &[u8; 1024], i: usize) -> u8
     requires { i < 3910 }
     ensures { result ≡ text_at frame.now i }
@@ -82,6 +87,7 @@ fn text_byte(frame: &[u8; 1024], i: usize) -> u8
 }
 
 // Ten lines of 130 characters: the glass as 8 lines of 128 Braille characters, and a line around it.
+#[tactic(auto, unfolding(crate::specs::Braille::braille))]
 pub fn braille(frame: &[u8; 1024]) -> [u8; 3910]
     ensures { result ≡ brailleOf frame.now }
 {

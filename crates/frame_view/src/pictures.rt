@@ -6,6 +6,7 @@ ghost use Rattle.frame_view.specs.Pbm.{pbm_at, pbm as pbmOf};
 use crate::dots::dot;
 
 // Byte i of the text.
+#[tactic(auto, unfolding(crate::specs::Plain::plain_at))]
 fn plain_byte(frame: &[u8; 1024], i: usize) -> u8
     requires { i < 8224 }
     ensures { result ≡ plain_at frame.now i }
@@ -21,6 +22,7 @@ fn plain_byte(frame: &[u8; 1024], i: usize) -> u8
 }
 
 // 32 lines of 256 characters.
+#[tactic(auto, unfolding(crate::specs::Plain::plain))]
 pub fn plain(frame: &[u8; 1024]) -> [u8; 8224]
     ensures { result ≡ plain_of frame.now }
 {
@@ -36,6 +38,7 @@ pub fn plain(frame: &[u8; 1024]) -> [u8; 8224]
 const HEADER: [u8; 10] = *b"P4\n256 32\n";
 
 // Byte i of the file.
+#[tactic(auto, unfolding(crate::specs::Pbm::pbm_at))]
 fn pbm_byte(frame: &[u8; 1024], i: usize) -> u8
     requires { i < 1034 }
     ensures { result ≡ pbm_at frame.now i }
@@ -47,6 +50,7 @@ fn pbm_byte(frame: &[u8; 1024], i: usize) -> u8
 }
 
 // A file of the kind P4: its header, and behind it the frame.
+#[tactic(auto, unfolding(crate::specs::Pbm::pbm))]
 pub fn pbm(frame: &[u8; 1024]) -> [u8; 1034]
     ensures { result ≡ pbmOf frame.now }
 {

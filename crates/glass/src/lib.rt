@@ -1,4 +1,6 @@
 // Which glass a frame is for, and where in it the bytes of the glass lie: by shifts and sums alone, as the small board multiplies in software.
+#![tactic(auto)]
+
 ghost use Rattle.std.specs.Prelude.{◌≡◌, ◌<◌};
 ghost use Rattle.glass.specs.Frames.{layout_of};
 ghost use Rattle.glass.specs.Places.{stride_of, place_on};
@@ -10,14 +12,14 @@ pub use lookup::native;
 pub use numbers::numbered;
 
 // Wide is 32 rows of 32 bytes. Folded is 64 rows of 16: the left half of each wide row, and below them all the right halves.
-#[derive(Drop)]
+#[derive(Clone, Copy)]
 pub enum Glass {
     Wide,
     Folded,
 }
 
 // A glass that a caller in another language names by a number.
-#[derive(Drop)]
+#[derive(Clone, Copy)]
 pub enum Found {
     Nothing,
     Known(Glass),

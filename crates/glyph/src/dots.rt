@@ -25,6 +25,7 @@ fn full_byte(n: u16, y: usize, right: bool, full: &[u8]) -> u8
 }
 
 // Row y of half glyph `code`, for codes 02h..7Fh.
+#[tactic(auto, unfolding(crate::specs::Dots::half_byte))]
 fn half_byte(code: u8, y: usize, half: &[u8]) -> u8
     requires { (y < 16) × (length half.now ≡ 2048) }
     ensures { result ≡ half_byte half.now code y }
@@ -47,6 +48,7 @@ fn code_of(high: u8, low: u8, right: bool) -> u8
 }
 
 // The left or the right byte of row y of the box.
+#[tactic(auto, unfolding(crate::specs::Dots::box_byte))]
 fn box_byte(y: usize, right: bool) -> u8
     ensures { result ≡ box_byte y right }
 {
@@ -60,6 +62,7 @@ fn box_byte(y: usize, right: bool) -> u8
 }
 
 // The left or the right byte of glyph row y of what a cell shows.
+#[tactic(auto, unfolding(crate::specs::Dots::dots_of))]
 pub fn dot_byte(
     content: Content,
     y: usize,

@@ -1,13 +1,14 @@
 // What a text word shows, after document 01's "The picture" and request K6, in layers that know nothing of one another's rules: crate
 // `numbering` gives a code's number in the full font; here, from it and from the length of that font, what the cell shows; and from that its
 // dots, a byte or a whole tile.
+#![tactic(auto)]
 
 pub mod dots;
 pub mod lookup;
 pub mod tile;
 
 // What a cell shows.
-#[derive(Drop)]
+#[derive(Clone, Copy)]
 pub enum Content {
     Image(u8),
     Full(u16),

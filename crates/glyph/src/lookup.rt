@@ -10,6 +10,7 @@ use numbering::{Code, number};
 
 // A numbered code shows its glyph where that lies whole inside a full font of `length` bytes; else its glyph is missing. One without a number is
 // blank.
+#[tactic(auto, unfolding(crate::specs::Lookup::full_of))]
 fn full_glyph(code: Code, length: usize) -> Content
     ensures { result ≡ full_of code length }
 {
@@ -26,6 +27,7 @@ fn full_glyph(code: Code, length: usize) -> Content
 }
 
 // A word that shows no image: by the full font from A1h on, else each byte by itself.
+#[tactic(auto, unfolding(crate::specs::Lookup::font_of))]
 fn by_font(numbering: Numbering, high: u8, low: u8, length: usize) -> Content
     ensures { result ≡ font_of numbering high low length }
 {
@@ -36,6 +38,7 @@ fn by_font(numbering: Numbering, high: u8, low: u8, length: usize) -> Content
 }
 
 // What the cell of a text word shows, with a full font of `length` bytes.
+#[tactic(auto, unfolding(crate::specs::Lookup::content_of))]
 pub fn content(numbering: Numbering, high: u8, low: u8, length: usize) -> Content
     ensures { result ≡ content_of numbering high low length }
 {

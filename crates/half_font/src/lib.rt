@@ -1,4 +1,6 @@
 // The half font that is there where no file is given, drawn for this project.
+#![tactic(auto)]
+
 ghost use Rattle.std.specs.Prelude.{◌≡◌, ◌≤◌, ◌<◌, length};
 
 // The characters from 20h on, eight to a strip, each six dots wide and thirteen high; the tenth row is the base line.

@@ -1,4 +1,6 @@
 // What each entry of the instruction table does to the controls.
+#![tactic(auto)]
+
 ghost use Rattle.std.specs.Prelude.{◌≡◌};
 ghost use Rattle.controller.specs.State.{InRange};
 ghost use Rattle.controller.specs.Instructions.{pointed, with_waiting, graphic_addressed, home, set_function, reverse_toggled, obeyed};
@@ -88,6 +90,7 @@ fn home(control: Control) -> Control
 }
 
 // What an entry of the table makes of the controls.
+#[tactic(auto, unfolding(controller::specs::Instructions::obeyed))]
 pub fn obey(control: Control, instruction: Instruction) -> Control
     requires { InRange control }
     ensures { result ≡ obeyed control instruction }

@@ -1,4 +1,6 @@
 // The calls that a board makes, after document 01, on memories that it keeps and lends: each is `call` with its event.
+#![tactic(auto)]
+
 ghost use Rattle.std.specs.Prelude.{◌≡◌};
 ghost use Rattle.controller.specs.Memories.{before, after};
 ghost use Rattle.controller.specs.State.{InRange};
@@ -13,6 +15,7 @@ use events::{Event, Pin, Transfer};
 use links::Link;
 
 // A transfer of the parallel link.
+#[tactic(auto, unfolding(calls::specs::Calls::called))]
 pub fn transfer(
     text: &mut [u8; 128],
     glyph: &mut [u8; 128],
@@ -36,6 +39,7 @@ pub fn transfer(
 }
 
 // One bit of the serial link, with chip select high.
+#[tactic(auto, unfolding(calls::specs::Calls::called))]
 pub fn bit(
     text: &mut [u8; 128],
     glyph: &mut [u8; 128],
@@ -59,6 +63,7 @@ pub fn bit(
 }
 
 // Chip select low on the serial link.
+#[tactic(auto, unfolding(calls::specs::Calls::called))]
 pub fn select_low(
     text: &mut [u8; 128],
     glyph: &mut [u8; 128],
@@ -81,6 +86,7 @@ pub fn select_low(
 }
 
 // Reset with the interface pin and the numbering that it chooses, on either link.
+#[tactic(auto, unfolding(calls::specs::Calls::called))]
 pub fn reset(
     text: &mut [u8; 128],
     glyph: &mut [u8; 128],
@@ -104,6 +110,7 @@ pub fn reset(
 }
 
 // So many times 8 microseconds pass, on either link.
+#[tactic(auto, unfolding(calls::specs::Calls::called))]
 pub fn pass(
     text: &mut [u8; 128],
     glyph: &mut [u8; 128],

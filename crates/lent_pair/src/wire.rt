@@ -28,6 +28,7 @@ pub(crate) fn is_serial(link: Link) -> bool
 }
 
 // The first refusal: that of the left panel's frame and fonts, that of the right's, or that not both panels are serial.
+#[tactic(auto, unfolding(picture::specs::Refusals::refusal_of))]
 pub(crate) fn first_refusal(
     left_frame: usize,
     left_half: usize,

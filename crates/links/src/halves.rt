@@ -8,6 +8,7 @@ use crate::{Carried, Link, Pairing, Rest};
 use events::{Deed, Transfer};
 
 // One half-byte transfer, after what is open. Of a write only bits 7..4 count.
+#[tactic(auto, unfolding(crate::specs::Halves::paired))]
 pub(crate) fn pair(pairing: Pairing, transfer: Transfer) -> Carried
     ensures { result ≡ paired pairing transfer }
 {
@@ -20,6 +21,7 @@ pub(crate) fn pair(pairing: Pairing, transfer: Transfer) -> Carried
 }
 
 // A write's half byte: the second if a first of the same kind is open, else a first.
+#[tactic(auto, unfolding(crate::specs::Halves::write_half))]
 fn write_half(pairing: Pairing, register: bool, value: u8) -> Carried
     ensures { result ≡ write_half pairing register value }
 {
@@ -42,6 +44,7 @@ fn write_half(pairing: Pairing, register: bool, value: u8) -> Carried
 }
 
 // A read's half byte: the second if the rest of an answer of the same kind is due, else a first.
+#[tactic(auto, unfolding(crate::specs::Halves::read_half))]
 fn read_half(pairing: Pairing, register: bool) -> Carried
     ensures { result ≡ read_half pairing register }
 {

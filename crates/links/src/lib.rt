@@ -1,6 +1,8 @@
 // From the connector's wires to bytes with their register: half bytes are paired, serial bits are heard. States go by value,
 // no function asks anything of its caller, and every state has its next one. Numbers are cut by `%` where a state could hold
 // more bits than document 01 gives it, so that no sum or product can wrap.
+#![tactic(auto)]
+
 mod halves;
 mod taking;
 
@@ -12,7 +14,7 @@ use serial::{Receiver, idle_receiver};
 pub use taking::{reply, take};
 
 // How the controller's answer goes back.
-#[derive(Drop)]
+#[derive(Clone, Copy)]
 pub enum Rest {
     // It is the reply, and the link is this.
     Stays(Link),
@@ -23,35 +25,35 @@ pub enum Rest {
 }
 
 // An event of this link: what of it reaches the controller, and how the answer goes back.
-#[derive(Drop)]
+#[derive(Clone, Copy)]
 pub struct Carried {
     pub deed: Deed,
     pub rest: Rest,
 }
 
 // What a link makes of an event.
-#[derive(Drop)]
+#[derive(Clone, Copy)]
 pub enum Taken {
     OtherLink,
     Carries(Carried),
 }
 
 // What a link answers, and what it is then.
-#[derive(Drop)]
+#[derive(Clone, Copy)]
 pub struct Replied {
     pub link: Link,
     pub reply: u8,
 }
 
 // How the controller is reached, by the interface pin, and what stands half received there.
-#[derive(Drop)]
+#[derive(Clone, Copy)]
 pub enum Link {
     Parallel(Pairing),
     Serial(Receiver),
 }
 
 // What half bytes have left open: a write's upper half, or the lower half of a read's answer.
-#[derive(Drop)]
+#[derive(Clone, Copy)]
 pub enum Pairing {
     Empty,
     Upper { register: bool, upper: u8 },

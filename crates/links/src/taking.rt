@@ -8,6 +8,7 @@ use events::{Deed, Event, Transfer};
 use serial::{Received, hear, select_low};
 
 // An event, by DL: of the other link, or with what of it reaches the controller.
+#[tactic(auto, unfolding(crate::specs::Taken::taken_by))]
 pub fn take(dl: bool, link: Link, event: Event) -> Taken
     ensures { result ≡ taken_by dl link event }
 {
@@ -41,6 +42,7 @@ fn transfer_taken(dl: bool, link: Link, transfer: Transfer) -> Taken
 }
 
 // DL = 1: one transfer, one byte. DL = 0: half bytes.
+#[tactic(auto, unfolding(crate::specs::Taken::by_width))]
 fn by_width(dl: bool, pairing: Pairing, transfer: Transfer) -> Carried
     ensures { result ≡ by_width dl pairing transfer }
 {

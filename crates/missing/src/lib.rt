@@ -1,4 +1,6 @@
 // Which codes of the present screen have no glyph in the lent font: the box that request K6 shows for each does not say which one to draw.
+#![tactic(auto)]
+
 ghost use Rattle.std.specs.Prelude.{◌≡◌, ◌<◌, ◌≤◌};
 ghost use Rattle.missing.specs.Missing.{band_row, missing_at};
 
@@ -7,7 +9,7 @@ use glyph::Content;
 use picture::shown::{shown_word, word_content};
 
 // What a cell lacks: the glyph of a code of two bytes, or nothing.
-#[derive(Drop)]
+#[derive(Clone, Copy)]
 pub enum Lacks {
     Nothing,
     Code { lead: u8, trail: u8 },
@@ -15,6 +17,7 @@ pub enum Lacks {
 
 // The first row of a band, the rows of the glass that show one line of text; 32 where the glass ends before it. Scrolling may cut the first
 // band and the last of three.
+#[tactic(auto, unfolding(crate::specs::Missing::band_row))]
 pub fn band_row(view: View, band: u32) -> u32
     requires { band ≤ 3 }
     ensures within { result ≤ 32 }
@@ -28,6 +31,7 @@ pub fn band_row(view: View, band: u32) -> u32
 }
 
 // What a cell of a row of the glass lacks, with a full font of `length` bytes.
+#[tactic(auto, unfolding(crate::specs::Missing::missing_at))]
 pub fn missing_at(text: &[u8; 128], view: View, row: u32, cell: u32, length: usize) -> Lacks
     requires { (row < 32) × (cell < 16) }
     ensures { result ≡ missing_at view length text.now row cell }

@@ -1,4 +1,6 @@
 // The numberings of the full font, after document 01's "The picture" and request K3.
+#![tactic(auto)]
+
 ghost use Rattle.std.specs.Prelude.{◌≡◌, ◌+◌, ◌*◌, ◌-◌, ◌<◌, ◌≤◌};
 ghost use Rattle.events.specs.declared.Numbering.TheVariants.{By96, By160};
 ghost use Rattle.numbering.specs.Numbering.{number_of, per_lead};
@@ -6,7 +8,7 @@ ghost use Rattle.numbering.specs.Numbering.{number_of, per_lead};
 use events::Numbering;
 
 // The number that a code of two bytes has in the full font, or none.
-#[derive(Drop)]
+#[derive(Clone, Copy)]
 pub enum Code {
     Unnumbered,
     Number(u16),
@@ -27,6 +29,7 @@ fn all_but_32_each(numbering: Numbering, page: u16) -> u16
 }
 
 // Leads to F7h with trails from A0h are numbered.
+#[tactic(auto, unfolding(crate::specs::Numbering::number_of))]
 fn by_96(lead: u8, trail: u8, first: u16) -> Code
     requires { (0xA1 ≤ lead) × (first ≡ (lead - 0xA1) * 96) }
     ensures { result ≡ number_of By96 lead trail }
@@ -41,6 +44,7 @@ fn by_96(lead: u8, trail: u8, first: u16) -> Code
 }
 
 // Leads to D7h with trails 40h..7Fh, and behind them those from A0h, are numbered.
+#[tactic(auto, unfolding(crate::specs::Numbering::number_of))]
 fn by_160(lead: u8, trail: u8, first: u16) -> Code
     requires { (0xA1 ≤ lead) × (first ≡ (lead - 0xA1) * 160) }
     ensures { result ≡ number_of By160 lead trail }
@@ -61,6 +65,7 @@ fn by_160(lead: u8, trail: u8, first: u16) -> Code
 }
 
 // The number of a code, by the numbering: from A1h on each lead has a page.
+#[tactic(auto, unfolding(crate::specs::Numbering::number_of))]
 pub fn number(numbering: Numbering, lead: u8, trail: u8) -> Code
     ensures { result ≡ number_of numbering lead trail }
 {

@@ -1,4 +1,6 @@
 // Two panels on one wire, for a board in another language, which keeps them as bytes. Crate `boundary` exports it.
+#![tactic(auto)]
+
 ghost use Rattle.std.specs.Prelude.{◌≤◌, ◌≡◌};
 ghost use Rattle.controller.specs.Memories.{before, after};
 ghost use Rattle.picture.specs.Picture.{seen};
@@ -11,6 +13,7 @@ use state_bytes::{pack, pack_link};
 use unpacking::{unpack, unpack_link};
 
 // What a panel keeps beside its memories, from its bytes.
+#[tactic(auto, unfolding(state_bytes::specs::Packed::unpacked, state_bytes::specs::LinkPacked::unpacked_link))]
 fn kept(control: &[u8; 27], link: &[u8; 10]) -> Kept
     ensures { result ≡ record { control = unpacked control.entry.now; link = unpacked_link link.now } }
 {
@@ -20,6 +23,7 @@ fn kept(control: &[u8; 27], link: &[u8; 10]) -> Kept
 }
 
 // And as its bytes.
+#[tactic(auto, unfolding(state_bytes::specs::Packed::packed))]
 fn put(kept: Kept, control: &mut [u8; 27], link: &mut [u8; 10])
     ensures { (control.new ≡ packed kept.control) × (link.new ≡ link_packed kept.link) }
 {
@@ -38,6 +42,7 @@ fn answer(left: usize, right: usize) -> u32
 
 // A clock of the wire, with the bit and both selects: answers the refusal number in bits 7..0, the left panel's count in bits 19..8 and the
 // right's in bits 31..20. Refused it leaves all that it was lent.
+#[tactic(auto, unfolding(crate::specs::Report::pair_reported))]
 pub fn bit(
     left_text: &mut [u8; 128],
     left_glyph: &mut [u8; 128],

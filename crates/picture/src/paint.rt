@@ -20,6 +20,7 @@ pub fn paint_row(part: &mut [u8], pair: TwoBytes)
 }
 
 // One byte of the glass, where its cell has these dots: with everything over them.
+#[tactic(auto, unfolding(crate::specs::Picture::byte_over))]
 pub fn byte_over(graphic: &[u8; 2048], look: Look, row: u32, column: u32, dots: u8) -> u8
     requires { (row < 32) × (column < 32) }
     ensures { result ≡ byte_over dots graphic.now look row column }
@@ -43,6 +44,7 @@ pub fn byte_over(graphic: &[u8; 2048], look: Look, row: u32, column: u32, dots: 
 }
 
 // One byte of the glass, with one lookup of its word.
+#[tactic(auto, unfolding(crate::specs::Picture::byte_at))]
 pub fn byte_at(
     text: &[u8; 128],
     glyph: &[u8; 128],

@@ -3,6 +3,7 @@ ghost use Rattle.std.specs.Prelude.{◌≡◌};
 ghost use Rattle.picture.specs.Refusals.{refusal_of};
 
 // The number of the first refusal that the lent lengths give, or 0.
+#[tactic(auto, unfolding(crate::specs::Refusals::refusal_of))]
 pub fn refusal(frame: usize, half: usize, full: usize) -> u8
     ensures { result ≡ refusal_of frame half full }
 {

@@ -9,6 +9,7 @@ use glyph::Content;
 use glyph::lookup::content;
 
 // Memory row s, at a row of the glass.
+#[tactic(auto, unfolding(controller::specs::Glass::shown_row))]
 pub fn shown_row(view: View, row: u32) -> u32
     requires { row < 32 }
     ensures within { result < 64 }
@@ -18,6 +19,7 @@ pub fn shown_row(view: View, row: u32) -> u32
 }
 
 // The text word of a cell there.
+#[tactic(auto, unfolding(controller::specs::Glass::shown_word))]
 pub fn shown_word(view: View, row: u32, cell: u32) -> u32
     requires { (row < 32) × (cell < 16) }
     ensures within { result < 64 }
@@ -27,6 +29,7 @@ pub fn shown_word(view: View, row: u32, cell: u32) -> u32
     16 * (s / 16) + (cell + view.shift as u32) % 16
 }
 
+#[tactic(auto, unfolding(crate::specs::Picture::word_content))]
 pub fn word_content(text: &[u8; 128], numbering: Numbering, word: u32, length: usize) -> Content
     requires { word < 64 }
     ensures { result ≡ word_content numbering length text.now word }

@@ -15,7 +15,7 @@ use picture::refusals::refusal;
 use records::obey;
 
 // Where the loop stops: after how many records, with which number, or since one more line might have no room.
-#[derive(Drop)]
+#[derive(Clone, Copy)]
 struct Halt {
     place: usize,
     number: u8,
@@ -23,6 +23,7 @@ struct Halt {
 }
 
 // Record after record, until the first that is refused, or that has no room for its line where lines are told.
+#[tactic(auto, unfolding(crate::specs::Replay::replayed))]
 fn run(
     panel: Panel,
     place: usize,
@@ -125,6 +126,7 @@ pub fn replay(
 // Replays a capture as `replay` does, from a number of accepted records on, and writes their lines from the beginning of the
 // buffer on. Where the buffer might have no room for one more line it stops before that record, and says so; the place in the
 // answer says how many records there are now. `counts` serves whoever lends the lines on.
+#[tactic(auto, unfolding(crate::specs::Transcript::transcribed))]
 pub fn transcribe(
     panel: Panel,
     place: usize,

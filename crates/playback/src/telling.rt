@@ -17,6 +17,7 @@ pub(crate) fn room_for(telling: bool, rest: usize, place: usize) -> bool
 }
 
 // Puts a record's line behind those before it, and answers the place behind it.
+#[tactic(auto, unfolding(printed::specs::Text::line))]
 pub(crate) fn tell(
     telling: bool,
     text: &mut [u8],

@@ -21,6 +21,7 @@ fn shown(kind: u8, character: u8) -> u8
 }
 
 // How many digits a number has in decimal, with at most so many.
+#[tactic(auto, unfolding(crate::specs::Text::decimal))]
 fn digits(most: usize, n: usize) -> usize
     ensures { result ≡ length (decimal most n) }
 {
@@ -35,6 +36,7 @@ fn digits(most: usize, n: usize) -> usize
 
 // Whether the longest line that a record of this number could have fits into the rest of a buffer, and whether the records
 // with it can be counted.
+#[tactic(auto, unfolding(crate::specs::Text::has_room))]
 pub fn has_room(rest: usize, place: usize) -> bool
     ensures { result ≡ has_room rest place }
 {
@@ -42,6 +44,7 @@ pub fn has_room(rest: usize, place: usize) -> bool
 }
 
 // A number in decimal, with at most so many digits.
+#[tactic(auto, unfolding(crate::specs::Text::decimal))]
 fn put_decimal(out: &mut [u8], at: usize, most: usize, n: usize) -> usize
     requires { at + length (decimal most n) ≤ length out.old }
     ensures { Put out.old at (decimal most n) out.new result }
@@ -81,6 +84,7 @@ fn put_four(out: &mut [u8], at: usize, a: u8, b: u8, c: u8, d: u8) -> usize
 }
 
 // The line of an accepted record.
+#[tactic(auto, unfolding(crate::specs::Text::line))]
 pub fn put_line(out: &mut [u8], at: usize, place: usize, kind: u8, reply: u8, count: usize) -> usize
     requires { at + length (line place (record_answer kind reply count)) ≤ length out.old }
     ensures { Put out.old at (line place (record_answer kind reply count)) out.new result }
@@ -100,6 +104,7 @@ fn put_byte(out: &mut [u8], at: usize, byte: u8) -> usize
 }
 
 // `end N`.
+#[tactic(auto, unfolding(crate::specs::Text::end_line))]
 fn put_end(out: &mut [u8], place: usize) -> usize
     requires { 48 ≤ length out.old }
     ensures { Put out.old 0 (end_line place) out.new result }
@@ -110,6 +115,7 @@ fn put_end(out: &mut [u8], place: usize) -> usize
 }
 
 // `stop N code`.
+#[tactic(auto, unfolding(crate::specs::Text::stop_line))]
 fn put_stop(out: &mut [u8], place: usize, number: u8) -> usize
     requires { 48 ≤ length out.old }
     ensures { Put out.old 0 (stop_line place number) out.new result }

@@ -1,4 +1,6 @@
 // A capture read record by record: what stands at a position of it, and a reader that holds the capture it was lent.
+#![tactic(auto)]
+
 ghost use Rattle.std.specs.Prelude.{◌≡◌};
 ghost use Rattle.capture.specs.Record.{passed};
 ghost use Rattle.reader.specs.Part.{lent};
@@ -19,7 +21,7 @@ fn part_from(capture: &[u8], at: usize) -> &[u8]
 }
 
 // What stands at a position, and the position behind it: a record's four bytes further on, or the same where there is none.
-#[derive(Drop)]
+#[derive(Clone, Copy)]
 pub struct Step {
     pub answer: Answer,
     pub next: usize,
@@ -49,7 +51,7 @@ fn passed(answer: Answer) -> usize
 
 // A reader holds the capture that it was lent, and a position in it. Its step only takes it apart for a function on
 // the slice and the number, since it is proved by hand.
-#[derive(Drop)]
+#[derive(Clone, Copy)]
 pub struct Reader<'a> {
     capture: &'a [u8],
     at: usize,

@@ -1,4 +1,6 @@
 // One record of a capture, carried out on a panel.
+#![tactic(auto)]
+
 ghost use Rattle.std.specs.Prelude.{[], ◌∷◌, ◌≡◌};
 ghost use Rattle.picture.specs.Picture.{seen};
 ghost use Rattle.calls.specs.State.{Valid};
@@ -11,6 +13,7 @@ use events::{Event, Pin, Transfer};
 use panel::{Outcome, Panel};
 
 // Eight bits of the serial link, highest first. On the other link the first is refused, and none is heard.
+#[tactic(auto, unfolding(crate::specs::Records::called_in_turn))]
 fn eight_bits(
     panel: Panel,
     value: u8,
@@ -58,6 +61,7 @@ fn pin_of(value: u8) -> Pin
 }
 
 // The one event of a record of any other kind than 4.
+#[tactic(auto, unfolding(capture::specs::Kinds::kind_of))]
 fn event_of(kind: u8, value: u8) -> Event
     requires { kind ≡ 4 → ⊥ }
     ensures { result ∷ [] ≡ asks (kind_of kind) value }
@@ -74,6 +78,7 @@ fn event_of(kind: u8, value: u8) -> Event
 }
 
 // A record that the capture's reader let pass.
+#[tactic(auto, unfolding(crate::specs::Records::record_called))]
 pub fn obey(
     panel: Panel,
     kind: u8,

@@ -1,4 +1,6 @@
 // A region of the glass, whatever it is: all of it, cells, a half of an image or a graphic byte; painted and counted.
+#![tactic(auto)]
+
 ghost use Rattle.std.specs.Prelude.{◌≡◌, ◌≤◌, length};
 ghost use Rattle.controller.specs.Memories.{before};
 ghost use Rattle.controller.specs.declared.Region.TheVariants.{Cells};

@@ -14,6 +14,7 @@ use picture::paint::paint_row;
 use tiles::{lay_tile, tile_pair};
 
 // The first row of the glass that shows a line of text, and the row after the last; both 0 where none shows it.
+#[tactic(auto, unfolding(crate::specs::Repaint::run_first))]
 fn run_first(scroll: u32, line: u32) -> u32
     requires { (scroll < 64) × (line < 4) }
     ensures { result ≡ run_first scroll line }
@@ -22,6 +23,7 @@ fn run_first(scroll: u32, line: u32) -> u32
     if top < 32 { top } else { 0 }
 }
 
+#[tactic(auto, unfolding(crate::specs::Repaint::run_end))]
 fn run_end(scroll: u32, line: u32) -> u32
     requires { (scroll < 64) × (line < 4) }
     ensures { result ≡ run_end scroll line }
@@ -40,6 +42,7 @@ fn run_end(scroll: u32, line: u32) -> u32
 }
 
 // One row of one cell: the row painter is lent its two bytes, a part from the middle of the frame.
+#[tactic(auto, unfolding(picture::specs::Tiles::shown_by))]
 fn paint_cell_row(
     tile: &[u8; 32],
     graphic: &[u8; 2048],
@@ -58,6 +61,7 @@ fn paint_cell_row(
 }
 
 // A cell on the rows from `first` up to `end`.
+#[tactic(auto, unfolding(picture::specs::Tiles::shown_by))]
 fn paint_rows(
     tile: &[u8; 32],
     graphic: &[u8; 2048],
@@ -81,6 +85,7 @@ fn paint_rows(
 }
 
 // The cell of a text word: looked up once, and only where its line shows.
+#[tactic(auto, unfolding(controller::specs::Named::in_cell, picture::specs::Picture::byte_at))]
 fn paint_word(
     text: &[u8; 128],
     glyph: &[u8; 128],
@@ -108,6 +113,7 @@ fn paint_word(
 }
 
 // A cell, where there is one.
+#[tactic(auto, unfolding(picture::specs::Picture::byte_at))]
 pub fn paint_cell(
     text: &[u8; 128],
     glyph: &[u8; 128],

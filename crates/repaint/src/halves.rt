@@ -15,6 +15,7 @@ use picture::Look;
 use picture::paint::{byte_at, byte_over};
 
 // Whether a text word shows an image.
+#[tactic(auto, unfolding(controller::specs::Glass::word_image))]
 fn shows_image(text: &[u8; 128], word: u32, number: u8) -> bool
     requires { word < 64 }
     ensures { result ≡ is_image (word_image text.now word) number }
@@ -28,6 +29,7 @@ fn shows_image(text: &[u8; 128], word: u32, number: u8) -> bool
 }
 
 // One cell of a row that shows the image's row, where its word shows the image.
+#[tactic(auto, unfolding(controller::specs::Named::shows_glyph, picture::specs::Picture::byte_over))]
 fn paint_if_image(
     text: &[u8; 128],
     graphic: &[u8; 2048],
@@ -52,6 +54,7 @@ fn paint_if_image(
 }
 
 // One row of the glass that shows the image's row.
+#[tactic(auto, unfolding(controller::specs::Named::shows_glyph, picture::specs::Picture::byte_over))]
 fn paint_image_row(
     text: &[u8; 128],
     graphic: &[u8; 2048],
@@ -74,6 +77,7 @@ fn paint_image_row(
 
 // A half of a glyph word: each byte showing that half of that image row. It shows on two rows of the glass, sixteen apart, and is the
 // same byte before what lies over it.
+#[tactic(auto, unfolding(controller::specs::Named::shows_glyph, picture::specs::Picture::byte_over))]
 pub fn paint_glyph_half(
     text: &[u8; 128],
     glyph: &[u8; 128],
@@ -98,6 +102,7 @@ pub fn paint_glyph_half(
 }
 
 // The byte of graphic row y at a column, if visible.
+#[tactic(auto, unfolding(picture::specs::Picture::byte_at))]
 pub fn paint_graphic_byte(
     text: &[u8; 128],
     glyph: &[u8; 128],

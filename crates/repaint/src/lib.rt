@@ -1,6 +1,8 @@
 // Painting the bytes that a transfer names, and no others, into a frame that the caller lends; and counting them: a cell, a half of an image
 // wherever it shows, a graphic byte. Crate `regions` puts them together.
 // The memories and controls are those after the transfer, and what the frame held before does not matter.
+#![tactic(auto)]
+
 pub mod cells;
 pub mod halves;
 

@@ -1,6 +1,8 @@
 // Replays a capture from standard input, and prints a line for each accepted record and one for the end. With `--time` the panel has time.
 // What is read and written is no matter of a contract; the lines are those of `playback`. What fails is said on standard
 // error, where it fails, and is never taken for the end of the capture.
+#![tactic(auto)]
+
 ghost use Rattle.std.specs.Prelude.{◌+◌, ◌/◌, ◌≤◌, false, ◌≡◌, length};
 ghost use Rattle.calls.specs.State.{Valid};
 ghost use Rattle.panel.specs.Handed.{state_of};
@@ -12,21 +14,21 @@ use panel::Panel;
 use playback::Stop;
 
 // Whether the panel is to have time, and whether there are other arguments, which has been said.
-#[derive(Drop)]
+#[derive(Clone, Copy)]
 struct Asked {
     time: bool,
     refused: bool,
 }
 
 // How many bytes came, and whether a read failed.
-#[derive(Drop)]
+#[derive(Clone, Copy)]
 struct Filled {
     count: usize,
     failed: bool,
 }
 
 // How far the replay came with a part, how many bytes the part had, and whether reading it or writing its lines failed.
-#[derive(Drop)]
+#[derive(Clone, Copy)]
 struct Came {
     stop: Stop,
     bytes: usize,

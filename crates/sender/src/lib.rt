@@ -1,9 +1,12 @@
 // The sender of the serial link: three bytes for a write.
+#![tactic(auto)]
+
 ghost use Rattle.std.specs.Prelude.{◌≡◌};
 ghost use Rattle.sender.specs.Sender.{header_byte, three_bytes, leaving, sent};
 
 // Puts the bytes that carry a write to a register into the first three of the buffer, and answers 0; or refuses a shorter
 // buffer with 4 and leaves it alone.
+#[tactic(auto, unfolding(crate::specs::Sender::sent))]
 pub fn send(register: bool, byte: u8, buffer: &mut [u8]) -> u8
     ensures { leaving result buffer.new ≡ sent register byte buffer.old }
 {

@@ -1,10 +1,12 @@
 // The serial link: a receiver that hears one bit at a time.
+#![tactic(auto)]
+
 ghost use Rattle.std.specs.Prelude.{◌≡◌};
 ghost use Rattle.serial.specs.declared.Sync.TheVariants.{Body};
 ghost use Rattle.serial.specs.Serial.{counted, after_header, header_bit, pushed, body_bit, completed, heard, idle_receiver, after_select_low};
 
 // How much of a header has come.
-#[derive(Drop)]
+#[derive(Clone, Copy)]
 pub enum Header {
     Begun,
     WithRead(bool),
@@ -12,34 +14,35 @@ pub enum Header {
 }
 
 // Outside a header: out of sync, or in a body, with the bits seen of the next byte and the data among them.
-#[derive(Drop)]
+#[derive(Clone, Copy)]
 pub enum Sync {
     Lost,
     Body { register: bool, seen: u8, byte: u8 },
 }
 
 // Where the serial receiver stands. There is a run of ones only outside a header.
-#[derive(Drop)]
+#[derive(Clone, Copy)]
 pub enum Receiver {
     Inside(Header),
     Outside { run: u8, sync: Sync },
 }
 
 // What a bit completes: nothing, or a byte that is to act.
-#[derive(Drop)]
+#[derive(Clone, Copy)]
 pub enum Received {
     Nothing,
     Byte { register: bool, byte: u8 },
 }
 
 // What a bit leaves.
-#[derive(Drop)]
+#[derive(Clone, Copy)]
 pub struct Heard {
     pub receiver: Receiver,
     pub received: Received,
 }
 
 // One serial bit, with chip select high.
+#[tactic(auto, unfolding(crate::specs::Serial::heard))]
 pub fn hear(receiver: Receiver, bit: bool) -> Heard
     ensures { result ≡ heard receiver bit }
 {
@@ -73,6 +76,7 @@ pub fn idle_receiver() -> Receiver
 }
 
 // One of the three bits of a header.
+#[tactic(auto, unfolding(crate::specs::Serial::header_bit))]
 fn header_bit(header: Header, bit: bool) -> Receiver
     ensures { result ≡ header_bit header bit }
 {
@@ -90,6 +94,7 @@ fn header_bit(header: Header, bit: bool) -> Receiver
 }
 
 // When all three have come: only a write with a third bit of 0 begins a body.
+#[tactic(auto, unfolding(crate::specs::Serial::after_header))]
 fn after_header(read: bool, register: bool, third: bool) -> Sync
     ensures { result ≡ after_header read register third }
 {
@@ -103,6 +108,7 @@ fn after_header(read: bool, register: bool, third: bool) -> Sync
 }
 
 // A bit outside a header as the run of ones takes it: the fifth one begins a header and drops what was half received.
+#[tactic(auto, unfolding(crate::specs::Serial::counted))]
 fn counted(run: u8, bit: bool, sync: Sync) -> Receiver
     ensures { result ≡ counted run bit sync }
 {
@@ -116,6 +122,7 @@ fn counted(run: u8, bit: bool, sync: Sync) -> Receiver
 }
 
 // The same bit as the body takes it: data, or one of the zeros that follow.
+#[tactic(auto, unfolding(crate::specs::Serial::body_bit))]
 fn body_bit(sync: Sync, bit: bool) -> Sync
     ensures { result ≡ body_bit sync bit }
 {
@@ -141,6 +148,7 @@ fn body_bit(sync: Sync, bit: bool) -> Sync
 }
 
 // The byte that the bit completes, if it is the last zero.
+#[tactic(auto, unfolding(crate::specs::Serial::completed))]
 fn completed(sync: Sync, bit: bool) -> Received
     ensures { result ≡ completed sync bit }
 {

@@ -28,7 +28,7 @@ fn print_line(lead: u8, trail: u8, row: u32, end: u32, cell: u32) -> bool
 }
 
 // Whether a glyph is missing, and whether all that was to be said could be written.
-#[derive(Drop)]
+#[derive(Clone, Copy)]
 struct Listed {
     pub some: bool,
     pub well: bool,

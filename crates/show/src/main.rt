@@ -1,5 +1,7 @@
 // Replays a capture and shows the glass: in Braille characters, in plain ones, or as a picture file; and says which glyphs are missing.
 // What is read and written is no matter of a contract; the replay is `playback`'s and the text `frame_view`'s.
+#![tactic(auto)]
+
 use asked::saying::failed;
 use asked::words::Asked;
 use asked::{files, saying};

@@ -1,4 +1,6 @@
 // A state, and where a replay stopped, spelled into bytes for other languages.
+#![tactic(auto)]
+
 ghost use Rattle.std.specs.Prelude.{◌≡◌, length};
 ghost use Rattle.panel.specs.Handed.{state_of};
 ghost use Rattle.spelling.specs.Spelled.{state_bytes, last_bytes};
@@ -15,6 +17,7 @@ fn put(part: &[u8], out: &mut [u8])
 }
 
 // The whole state, part by part.
+#[tactic(auto, unfolding(crate::specs::Spelled::state_bytes))]
 pub fn spell_state(panel: Panel, out: &mut [u8])
     requires { length out.old ≡ 2341 }
     ensures { out.new ≡ state_bytes (state_of panel) }
@@ -29,6 +32,7 @@ pub fn spell_state(panel: Panel, out: &mut [u8])
 }
 
 // The place where the replay stopped, and what the last accepted record answered.
+#[tactic(auto, unfolding(crate::specs::Spelled::last_bytes))]
 pub fn last_bytes(place: usize, reply: u8, count: usize) -> [u8; 11]
     ensures { result ≡ last_bytes place reply count }
 {

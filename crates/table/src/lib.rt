@@ -1,4 +1,6 @@
 // The instruction table of document 01: what a byte says in each of the two instruction sets.
+#![tactic(auto)]
+
 ghost use Rattle.std.specs.Prelude.{◌≡◌};
 ghost use Rattle.base.specs.Bits.{bits5_0};
 ghost use Rattle.table.specs.declared.Instruction.TheVariants.{GlyphAddress, Scroll};
@@ -6,7 +8,7 @@ ghost use Rattle.table.specs.Touches.{touches};
 ghost use Rattle.table.specs.Table.{said, basic_column, extended_column, moving, function_set, if_sr0, if_sr1};
 
 // The memory that the address counter speaks of.
-#[derive(Drop)]
+#[derive(Clone, Copy)]
 pub enum Target {
     Text,
     Glyph,
@@ -14,7 +16,7 @@ pub enum Target {
 }
 
 // What the table asks for beside the byte.
-#[derive(Drop)]
+#[derive(Clone, Copy)]
 pub struct Modes {
     pub re: bool,
     pub sr: bool,
@@ -22,7 +24,7 @@ pub struct Modes {
 }
 
 // An entry of the table, with the values that the byte gives it.
-#[derive(Drop)]
+#[derive(Clone, Copy)]
 pub enum Instruction {
     Ignored,
     Clear,
@@ -57,7 +59,7 @@ pub enum Instruction {
 }
 
 // What an instruction touches.
-#[derive(Drop)]
+#[derive(Clone, Copy)]
 pub enum Touch {
     // An ignored code.
     Nothing,
@@ -70,6 +72,7 @@ pub enum Touch {
 }
 
 // What a byte says in the instruction set that RE chooses.
+#[tactic(auto, unfolding(crate::specs::Table::said))]
 pub fn decode(modes: Modes, byte: u8) -> Instruction
     ensures { result ≡ said modes byte }
 {

@@ -1,4 +1,6 @@
 // The tiles of a line's sixteen cells, one after the other: what is done to them before they are handed out, in document 01's order.
+#![tactic(auto)]
+
 ghost use Rattle.std.specs.Prelude.{◌≡◌, ◌&&◌, ◌||◌, ◌+◌, ◌*◌, ◌-◌, ◌<◌, ◌≤◌, length, get_or, eqb};
 ghost use Rattle.base.specs.Lists.{upto};
 ghost use Rattle.base.specs.Painting.{painted, everywhere, between};
@@ -13,6 +15,7 @@ use picture::shown::{shown_row, word_content};
 use picture::{Look, TwoBytes};
 
 // The word's dots, as the tile that begins at `to`.
+#[tactic(auto, unfolding(base::specs::Painting::painted, base::specs::Painting::between))]
 fn lay_word(
     text: &[u8; 128],
     glyph: &[u8; 128],
@@ -31,6 +34,7 @@ fn lay_word(
 }
 
 // The dots of all sixteen cells.
+#[tactic(auto, unfolding(base::specs::Lists::upto))]
 fn lay_words(
     text: &[u8; 128],
     glyph: &[u8; 128],
@@ -65,6 +69,7 @@ fn fill_cursor(tiles: &mut [u8], at: usize, on: bool)
     }
 }
 
+#[tactic(auto, unfolding(base::specs::Painting::painted, base::specs::Painting::between))]
 fn invert(tiles: &mut [u8], from: u32, to: u32)
     requires { (from ≤ to) × (to ≤ length tiles.old) }
     ensures { tiles.new ≡ painted (between from to everywhere) (λ i. 0xFF - get_or tiles.old i 0) tiles.old }
@@ -106,6 +111,7 @@ fn counter_tile(counter: u32, shift: u32) -> u32
 }
 
 // All sixteen tiles of a line, with everything over them but the graphic.
+#[tactic(auto, unfolding(base::specs::Lists::upto, picture::specs::Tiles::tile_byte))]
 pub fn lay_line(
     text: &[u8; 128],
     glyph: &[u8; 128],
@@ -138,6 +144,7 @@ pub fn lay_line(
 }
 
 // The tile of one word, likewise.
+#[tactic(auto, unfolding(base::specs::Lists::upto, picture::specs::Tiles::tile_byte))]
 pub fn lay_tile(
     text: &[u8; 128],
     glyph: &[u8; 128],

@@ -1,4 +1,6 @@
 // Busy, with time: what is lost, what each transfer costs, and how time passes.
+#![tactic(auto)]
+
 ghost use Rattle.std.specs.Prelude.{◌≡◌, ◌≤◌};
 ghost use Rattle.time.specs.Time.{busy, busy_bit, lost, instruction_cost, cost, charged, elapsed};
 

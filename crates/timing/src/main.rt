@@ -2,6 +2,8 @@
 // memory with their repaint, on lent memories; `value`, the text writes by the call by value; `copy`, a copy of the state alone;
 // `draw`, the whole picture. Before the writes come the few transfers that make the screen.
 // Prints a number that depends on all that was done, so that none of it can be left out.
+#![tactic(auto)]
+
 ghost use Rattle.std.specs.Prelude.{◌<◌, ◌≤◌, ◌≡◌, length};
 ghost use Rattle.controller.specs.State.{InRange};
 ghost use Rattle.calls.specs.State.{Valid};

@@ -1,5 +1,7 @@
 // The controls that 27 bytes spell, in the order in which `unpacked` reads them. A byte that is out of range counts by the bits that it
 // should have; of the time that remains all 16 count, and more than a panel's longest counts as that.
+#![tactic(auto)]
+
 use controller::controls::numbering;
 use controller::{Control, Entry, Function, Place, Shown, Time, View, Waiting};
 use table::Target;
@@ -71,6 +73,7 @@ fn time(timed: u8, high: u8, low: u8) -> Time
     }
 }
 
+#[tactic(auto, unfolding(state_bytes::specs::Packed::place_from))]
 fn place(bytes: &[u8; 27]) -> Place
     ensures { result ≡ place_from bytes.now }
 {
@@ -90,6 +93,7 @@ fn place(bytes: &[u8; 27]) -> Place
     }
 }
 
+#[tactic(auto, unfolding(state_bytes::specs::Packed::view_from))]
 fn view(bytes: &[u8; 27]) -> View
     ensures { result ≡ view_from bytes.now }
 {
@@ -107,6 +111,7 @@ fn view(bytes: &[u8; 27]) -> View
     }
 }
 
+#[tactic(auto, unfolding(state_bytes::specs::Packed::unpacked))]
 pub fn unpack(bytes: &[u8; 27]) -> Control
     ensures { result ≡ unpacked bytes.now }
 {

@@ -49,6 +49,7 @@ fn header(seen: u8, read: bool, register: bool) -> Header
     Header::WithRegister { read, register }
 }
 
+#[tactic(auto, unfolding(state_bytes::specs::LinkPacked::receiver_from))]
 fn receiver(bytes: &[u8; 10]) -> Receiver
     ensures { result ≡ receiver_from bytes.now }
 {
@@ -75,6 +76,7 @@ fn receiver(bytes: &[u8; 10]) -> Receiver
     }
 }
 
+#[tactic(auto, unfolding(state_bytes::specs::LinkPacked::unpacked_link))]
 pub fn unpack_link(bytes: &[u8; 10]) -> Link
     ensures { result ≡ unpacked_link bytes.now }
 {

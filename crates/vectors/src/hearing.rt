@@ -5,7 +5,7 @@ use crate::saying::{print, print_byte};
 use serial::{Received, Receiver};
 
 // A receiver, and whether it has received anything yet.
-#[derive(Drop)]
+#[derive(Clone, Copy)]
 struct Ear {
     receiver: Receiver,
     any: bool,

@@ -1,5 +1,7 @@
 // Document 01's readings and refusals, run: what the serial link hears, what transfers answer, the glyph numbers by either numbering, and
 // every refusal of the panel's calls. What is printed is held to a stored output.
+#![tactic(auto)]
+
 use events::Numbering;
 use readings::{codes, counted};
 use refusals::print_drawing;
