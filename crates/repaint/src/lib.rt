@@ -7,7 +7,7 @@ pub mod cells;
 pub mod halves;
 
 // One byte of an image: a half of a glyph word, and the dots that it holds.
-#[derive(Drop)]
+#[derive(Clone, Copy)]
 pub(crate) struct ImageByte {
     pub word: u8,
     pub low: bool,

@@ -7,7 +7,7 @@ use events::{Made, Numbering};
 use panel::Panel;
 
 // Where a replay ended: the panel then, how many records it accepted, the refusal number, and whether all could be read.
-#[derive(Drop)]
+#[derive(Clone, Copy)]
 pub(crate) struct Ended {
     pub panel: Panel,
     pub records: u64,

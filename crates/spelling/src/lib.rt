@@ -13,7 +13,7 @@ fn put(part: &[u8], out: &mut [u8])
     requires { length part.now ≡ length out.old }
     ensures { out.new ≡ part.now }
 {
-    bytes::copy(part, out);
+    out.copy_from_slice(part);
 }
 
 // The whole state, part by part.
