@@ -184,6 +184,7 @@ fn on_time(
 }
 
 // Everything as fresh.
+#[tactic(auto, unfolding(controller::specs::Memories::fresh_memories, controller::specs::State::fresh_control))]
 fn restart(
     text: &mut [u8; 128],
     glyph: &mut [u8; 128],
