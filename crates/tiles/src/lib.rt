@@ -15,7 +15,6 @@ use picture::shown::{shown_row, word_content};
 use picture::{Look, TwoBytes};
 
 // The word's dots, as the tile that begins at `to`.
-#[tactic(auto, unfolding(base::specs::Painting::painted, base::specs::Painting::between))]
 fn lay_word(
     text: &[u8; 128],
     glyph: &[u8; 128],
@@ -27,14 +26,13 @@ fn lay_word(
     full: &[u8],
 )
     requires { (word < 64) × (to + 32 ≤ length tiles.old) × (length half.now ≡ 2048) }
-    ensures { tiles.new ≡ painted (between to (to + 32) everywhere) (λ i. word_dots (fonts half full) text.now glyph.now numbering word (i - to)) tiles.old }
+    ensures { tiles.new ≡ painted (between to (to + 32) everywhere) (λ i. word_dots (fonts half.now full.now) text.now glyph.now numbering word (i - to)) tiles.old }
 {
     let shown = word_content(text, numbering, word, full.len());
     lay(shown, tiles, to, glyph, half, full);
 }
 
 // The dots of all sixteen cells.
-#[tactic(auto, unfolding(base::specs::Lists::upto))]
 fn lay_words(
     text: &[u8; 128],
     glyph: &[u8; 128],
@@ -46,7 +44,7 @@ fn lay_words(
     full: &[u8],
 )
     requires { (shift < 256) × (line < 4) × (length tiles.old ≡ 512) × (length half.now ≡ 2048) }
-    ensures { tiles.new ≡ upto 512 (by_tile (λ cell j. word_dots (fonts half full) text.now glyph.now numbering (line_word shift line cell) j)) }
+    ensures { tiles.new ≡ upto 512 (by_tile (λ cell j. word_dots (fonts half.now full.now) text.now glyph.now numbering (line_word shift line cell) j)) }
 {
     let mut cell: u32 = 0;
     while cell < 16 {
@@ -69,7 +67,6 @@ fn fill_cursor(tiles: &mut [u8], at: usize, on: bool)
     }
 }
 
-#[tactic(auto, unfolding(base::specs::Painting::painted, base::specs::Painting::between))]
 fn invert(tiles: &mut [u8], from: u32, to: u32)
     requires { (from ≤ to) × (to ≤ length tiles.old) }
     ensures { tiles.new ≡ painted (between from to everywhere) (λ i. 0xFF - get_or tiles.old i 0) tiles.old }
@@ -111,7 +108,6 @@ fn counter_tile(counter: u32, shift: u32) -> u32
 }
 
 // All sixteen tiles of a line, with everything over them but the graphic.
-#[tactic(auto, unfolding(base::specs::Lists::upto, picture::specs::Tiles::tile_byte))]
 pub fn lay_line(
     text: &[u8; 128],
     glyph: &[u8; 128],
@@ -122,7 +118,7 @@ pub fn lay_line(
     full: &[u8],
 )
     requires { (line < 4) × (length tiles.old ≡ 512) × (length half.now ≡ 2048) }
-    ensures { tiles.new ≡ upto 512 (by_tile (λ cell j. tile_byte (fonts half full) text.now glyph.now look (line_word look.view.shift line cell) j)) }
+    ensures { tiles.new ≡ upto 512 (by_tile (λ cell j. tile_byte (fonts half.now full.now) text.now glyph.now look (line_word look.view.shift line cell) j)) }
 {
     let view = look.view;
     let numbering = view.numbering;
@@ -144,7 +140,6 @@ pub fn lay_line(
 }
 
 // The tile of one word, likewise.
-#[tactic(auto, unfolding(base::specs::Lists::upto, picture::specs::Tiles::tile_byte))]
 pub fn lay_tile(
     text: &[u8; 128],
     glyph: &[u8; 128],
@@ -155,7 +150,7 @@ pub fn lay_tile(
     full: &[u8],
 )
     requires { (word < 64) × (length tile.old ≡ 32) × (length half.now ≡ 2048) }
-    ensures { tile.new ≡ upto 32 (tile_byte (fonts half full) text.now glyph.now look word) }
+    ensures { tile.new ≡ upto 32 (tile_byte (fonts half.now full.now) text.now glyph.now look word) }
 {
     let view = look.view;
     let numbering = view.numbering;
