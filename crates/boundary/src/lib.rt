@@ -5,7 +5,7 @@
 mod pair;
 
 ghost use Rattle.std.specs.Prelude.{◌≡◌};
-ghost use Rattle.controller.specs.Memories.{before};
+ghost use Rattle.controller.specs.Memories.{memories};
 ghost use Rattle.controller.specs.State.{numbering_of};
 ghost use Rattle.picture.specs.Picture.{seen};
 ghost use Rattle.picture.specs.Refusals.{drawing, drawn};
@@ -33,7 +33,7 @@ pub extern "C" fn zifqarell_draw(
     full: &[u8],
     phase: bool,
 ) -> u8
-    ensures { drawing result frame.new ≡ drawn (seen half full phase) (before text glyph graphic) (unpacked control.now) frame.old }
+    ensures { drawing result frame.new ≡ drawn (seen half.now full.now phase) (memories text.now glyph.now graphic.now) (unpacked control.now) frame.old }
 {
     let control = unpack(control);
     drawing::draw(text, glyph, graphic, control, frame, half, full, phase)
@@ -65,7 +65,7 @@ pub extern "C" fn zifqarell_replay(
     state: &mut [u8; 2341],
     last: &mut [u8; 11],
 ) -> u8
-    ensures { report result frame.new state.new last.new ≡ fresh_replay (record { parallel = parallel; time = time; numbering = numbering_of by160 }) (seen half full phase) capture.now frame.old state.old last.old }
+    ensures { report result frame.new state.new last.new ≡ fresh_replay (record { parallel = parallel; time = time; numbering = numbering_of by160 }) (seen half.now full.now phase) capture.now frame.old state.old last.old }
 {
     let number = refusal(frame.len(), half.len(), full.len());
     if number != 0 {

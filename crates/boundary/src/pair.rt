@@ -1,7 +1,7 @@
 // Two panels on one wire, for other languages. Only a crate's own functions are exported; the work is `pair_bytes`', so that it is not proved
 // again with every edit of what stands here.
 ghost use Rattle.std.specs.Prelude.{◌≡◌};
-ghost use Rattle.controller.specs.Memories.{before, after};
+ghost use Rattle.controller.specs.Memories.{memories};
 ghost use Rattle.picture.specs.Picture.{seen};
 ghost use Rattle.pair_bytes.specs.Report.{side_bytes, pair_report, pair_reported};
 
@@ -33,7 +33,7 @@ pub extern "C" fn zifqarell_pair_bit(
     right_full: &[u8],
     right_phase: bool,
 ) -> u32
-    ensures { pair_report result (side_bytes (after left_text left_glyph left_graphic) left_control.new left_link.new left_frame.new) (side_bytes (after right_text right_glyph right_graphic) right_control.new right_link.new right_frame.new) ≡ pair_reported (seen left_half left_full left_phase) (side_bytes (before left_text left_glyph left_graphic) left_control.old left_link.old left_frame.old) (seen right_half right_full right_phase) (side_bytes (before right_text right_glyph right_graphic) right_control.old right_link.old right_frame.old) (record { bit = bit; left = left_select; right = right_select }) }
+    ensures { pair_report result (side_bytes (memories left_text.new left_glyph.new left_graphic.new) left_control.new left_link.new left_frame.new) (side_bytes (memories right_text.new right_glyph.new right_graphic.new) right_control.new right_link.new right_frame.new) ≡ pair_reported (seen left_half.now left_full.now left_phase) (side_bytes (memories left_text.old left_glyph.old left_graphic.old) left_control.old left_link.old left_frame.old) (seen right_half.now right_full.now right_phase) (side_bytes (memories right_text.old right_glyph.old right_graphic.old) right_control.old right_link.old right_frame.old) (record { bit = bit; left = left_select; right = right_select }) }
 {
     pair_bytes::bit(
         left_text,

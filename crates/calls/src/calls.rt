@@ -1,7 +1,7 @@
 // A call on memories that the caller keeps and lends, for a board where a serial link brings one for every bit. It leaves what the call
 // by value leaves.
 ghost use Rattle.std.specs.Prelude.{◌≡◌, length};
-ghost use Rattle.controller.specs.Memories.{before, after};
+ghost use Rattle.controller.specs.Memories.{memories};
 ghost use Rattle.controller.specs.State.{InRange};
 ghost use Rattle.deeds.specs.Transfers.{acted};
 ghost use Rattle.picture.specs.Picture.{seen};
@@ -44,7 +44,7 @@ fn show(
     phase: bool,
 ) -> LentOutcome
     requires { InRange done.control × RegionWithin done.region × (length frame.old ≡ 1024) × (length half.now ≡ 2048) }
-    ensures { left result (before text glyph graphic) frame.new ≡ accepted (seen half full phase) frame.old (acted (before text glyph graphic) done) rest }
+    ensures { left result (memories text.now glyph.now graphic.now) frame.new ≡ accepted (seen half.now full.now phase) frame.old (acted (memories text.now glyph.now graphic.now) done) rest }
 {
     let control = done.control;
     let region = done.region;
@@ -89,7 +89,7 @@ pub fn call(
     phase: bool,
 ) -> LentOutcome
     requires { InRange control }
-    ensures frame_after { left result (after text glyph graphic) frame.new ≡ called (seen half full phase) (state (before text glyph graphic) control link) frame.old event }
+    ensures frame_after { left result (memories text.new glyph.new graphic.new) frame.new ≡ called (seen half.now full.now phase) (state (memories text.old glyph.old graphic.old) control link) frame.old event }
     ensures valid { InRange result.control }
 {
     let number = refusal(frame.len(), half.len(), full.len());

@@ -1,8 +1,6 @@
 -- Document 01, "Memories and flags": the three memories. Text memory is 64 words of 16 bits, four lines of 16; glyph memory 64 words,
 -- four images of 16 rows; graphic memory 64 rows of 16 words. Each is a list of bytes, high byte first.
 use Rattle.std.specs.Prelude.{ℕ, ◌+◌, ◌*◌, Bool, List, replicate}
-use Rattle.std.specs.Borrow.{Bor}
-use denote.Triple.Both.{Both}
 use Rattle.base.specs.Choice.{if◌then◌else◌}
 
 pub record Memories : Type 0 where
@@ -32,15 +30,3 @@ fresh_memories = record { text = replicate 128 0x20; glyph = replicate 128 0; gr
 
 abbrev pub memories : List ℕ → List ℕ → List ℕ → Memories
 memories t g h = record { text = t; glyph = g; graphic = h }
-
--- a lent memory, frame or font, as a contract names it: what it held at entry, and what it holds at exit
-abbrev pub Lent : Type 0
-Lent = Both (Bor (List ℕ)) (Bor (List ℕ))
-
--- the three memories at entry
-abbrev pub before : Lent → Lent → Lent → Memories
-before t g h = memories t.entry.now g.entry.now h.entry.now
-
--- and at exit
-abbrev pub after : Lent → Lent → Lent → Memories
-after t g h = memories t.exit.now g.exit.now h.exit.now

@@ -1,6 +1,6 @@
 // Data transfers: where they go, and how place and view move on.
 ghost use Rattle.std.specs.Prelude.{◌≡◌, ◌<◌};
-ghost use Rattle.controller.specs.Memories.{before, after};
+ghost use Rattle.controller.specs.Memories.{memories};
 ghost use Rattle.controller.specs.State.{InRange, limit};
 ghost use Rattle.controller.specs.Data.{stored, found, next_counter, counter_after, moved, completes, shifts, moved_on, dummy_read};
 
@@ -19,7 +19,7 @@ pub fn store(
     byte: u8,
 )
     requires { InRange control }
-    ensures { after text glyph graphic ≡ stored control.place.target control.place byte (before text glyph graphic) }
+    ensures { memories text.new glyph.new graphic.new ≡ stored control.place.target control.place byte (memories text.old glyph.old graphic.old) }
 {
     let place = control.place;
     let target = place.target;
@@ -43,7 +43,7 @@ pub fn store(
 #[tactic(auto, unfolding(crate::specs::Data::found))]
 pub fn find(text: &[u8; 128], glyph: &[u8; 128], graphic: &[u8; 2048], control: Control) -> u8
     requires { InRange control }
-    ensures { result ≡ found control.place.target control.place (before text glyph graphic) }
+    ensures { result ≡ found control.place.target control.place (memories text.now glyph.now graphic.now) }
 {
     let place = control.place;
     let target = place.target;

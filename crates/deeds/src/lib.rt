@@ -2,7 +2,7 @@
 #![tactic(auto)]
 
 ghost use Rattle.std.specs.Prelude.{◌≡◌, List, ℕ};
-ghost use Rattle.controller.specs.Memories.{memories, before, after};
+ghost use Rattle.controller.specs.Memories.{memories};
 ghost use Rattle.controller.specs.State.{InRange};
 ghost use Rattle.controller.specs.Instructions.{cleared};
 ghost use Rattle.deeds.specs.Transfers.{acted, executed, written, read_out, status_read, carried_out, nothing_done, at_cost, on_time, restarted, performed};
@@ -66,7 +66,7 @@ fn write(
     byte: u8,
 ) -> Done
     requires { InRange control }
-    ensures result_value { acted (after text glyph graphic) result ≡ written (before text glyph graphic) control byte }
+    ensures result_value { acted (memories text.new glyph.new graphic.new) result ≡ written (memories text.old glyph.old graphic.old) control byte }
     ensures valid { InRange result.control }
 {
     store(text, glyph, graphic, control, byte);
@@ -83,7 +83,7 @@ fn write(
 #[tactic(auto, unfolding(crate::specs::Transfers::read_out))]
 fn read(text: &[u8; 128], glyph: &[u8; 128], graphic: &[u8; 2048], control: Control) -> Done
     requires { InRange control }
-    ensures value { result ≡ read_out (before text glyph graphic) control }
+    ensures value { result ≡ read_out (memories text.now glyph.now graphic.now) control }
     ensures valid { InRange result.control }
 {
     let place = control.place;
@@ -128,7 +128,7 @@ fn carry_out(
     transfer: Transfer,
 ) -> Done
     requires { InRange control }
-    ensures { acted (after text glyph graphic) result ≡ carried_out (before text glyph graphic) control transfer }
+    ensures { acted (memories text.new glyph.new graphic.new) result ≡ carried_out (memories text.old glyph.old graphic.old) control transfer }
 {
     match transfer {
         Transfer::Instruct(byte) => execute(text, control, byte),
@@ -171,7 +171,7 @@ fn on_time(
     transfer: Transfer,
 ) -> Done
     requires { InRange control }
-    ensures { acted (after text glyph graphic) result ≡ on_time (before text glyph graphic) control transfer }
+    ensures { acted (memories text.new glyph.new graphic.new) result ≡ on_time (memories text.old glyph.old graphic.old) control transfer }
 {
     if is_lost(control, transfer) {
         return nothing_done(control);
@@ -184,13 +184,14 @@ fn on_time(
 }
 
 // Everything as fresh.
+#[tactic(auto, unfolding(controller::specs::Memories::fresh_memories, controller::specs::State::fresh_control))]
 fn restart(
     text: &mut [u8; 128],
     glyph: &mut [u8; 128],
     graphic: &mut [u8; 2048],
     made: Made,
 ) -> Done
-    ensures { acted (after text glyph graphic) result ≡ restarted made }
+    ensures { acted (memories text.new glyph.new graphic.new) result ≡ restarted made }
 {
     *text = [0x20u8; 128];
     *glyph = [0u8; 128];
@@ -212,7 +213,7 @@ pub fn perform(
     deed: Deed,
 ) -> Done
     requires { InRange control }
-    ensures { acted (after text glyph graphic) result ≡ performed (before text glyph graphic) control deed }
+    ensures { acted (memories text.new glyph.new graphic.new) result ≡ performed (memories text.old glyph.old graphic.old) control deed }
 {
     match deed {
         Deed::Nothing => nothing_done(control),

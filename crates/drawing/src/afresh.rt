@@ -1,6 +1,6 @@
 // The whole picture, drawn afresh.
 ghost use Rattle.std.specs.Prelude.{◌≡◌};
-ghost use Rattle.controller.specs.Memories.{before};
+ghost use Rattle.controller.specs.Memories.{memories};
 ghost use Rattle.picture.specs.Picture.{seen};
 ghost use Rattle.picture.specs.Refusals.{drawing, drawn};
 
@@ -21,7 +21,7 @@ pub fn draw(
     full: &[u8],
     phase: bool,
 ) -> u8
-    ensures { drawing result frame.new ≡ drawn (seen half full phase) (before text glyph graphic) control frame.old }
+    ensures { drawing result frame.new ≡ drawn (seen half.now full.now phase) (memories text.now glyph.now graphic.now) control frame.old }
 {
     let number = refusal(frame.len(), half.len(), full.len());
     if number != 0 {

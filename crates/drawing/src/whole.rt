@@ -4,7 +4,7 @@ ghost use Rattle.std.specs.Int.Bits.{bit_xor};
 ghost use Rattle.base.specs.Lists.{upto};
 ghost use Rattle.base.specs.Painting.{painted, everywhere, between};
 ghost use Rattle.base.specs.Layout.{painted_on};
-ghost use Rattle.controller.specs.Memories.{before};
+ghost use Rattle.controller.specs.Memories.{memories};
 ghost use Rattle.picture.specs.Picture.{fonts, byte_at, overlaid, wide, picture};
 ghost use Rattle.picture.specs.Tiles.{from_tiles, in_rows, band_end};
 
@@ -107,7 +107,7 @@ fn paint_band(
 ) -> u32
     requires { (look.dark ≡ false) × (row < 32) × (length frame.old ≡ 1024) × (length half.now ≡ 2048) }
     ensures within { (row < result) × (result ≤ 32) }
-    ensures frame_after { frame.new ≡ painted_on wide (in_rows row result) (byte_at (fonts half full) (before text glyph graphic) look) frame.old }
+    ensures frame_after { frame.new ≡ painted_on wide (in_rows row result) (byte_at (fonts half.now full.now) (memories text.now glyph.now graphic.now) look) frame.old }
 {
     let scroll = look.view.scroll as u32;
     let s = shown_row(look.view, row);
@@ -138,7 +138,7 @@ pub fn paint_whole(
     full: &[u8],
 )
     requires { (length frame.old ≡ 1024) × (length half.now ≡ 2048) }
-    ensures { frame.new ≡ picture wide (fonts half full) (before text glyph graphic) look }
+    ensures { frame.new ≡ picture wide (fonts half.now full.now) (memories text.now glyph.now graphic.now) look }
 {
     if look.dark {
         clear(frame);

@@ -2,7 +2,7 @@
 #![tactic(auto)]
 
 ghost use Rattle.std.specs.Prelude.{◌≡◌};
-ghost use Rattle.controller.specs.Memories.{before, after};
+ghost use Rattle.controller.specs.Memories.{memories};
 ghost use Rattle.controller.specs.State.{InRange};
 ghost use Rattle.events.specs.declared.Event.TheVariants as event;
 ghost use Rattle.picture.specs.Picture.{seen};
@@ -29,7 +29,7 @@ pub fn transfer(
     phase: bool,
 ) -> LentOutcome
     requires { InRange control }
-    ensures frame_after { left result (after text glyph graphic) frame.new ≡ called (seen half full phase) (state (before text glyph graphic) control link) frame.old (event.Transfer given) }
+    ensures frame_after { left result (memories text.new glyph.new graphic.new) frame.new ≡ called (seen half.now full.now phase) (state (memories text.old glyph.old graphic.old) control link) frame.old (event.Transfer given) }
     ensures valid { InRange result.control }
 {
     let transfer = Event::Transfer(given);
@@ -53,7 +53,7 @@ pub fn bit(
     phase: bool,
 ) -> LentOutcome
     requires { InRange control }
-    ensures frame_after { left result (after text glyph graphic) frame.new ≡ called (seen half full phase) (state (before text glyph graphic) control link) frame.old (event.Bit given) }
+    ensures frame_after { left result (memories text.new glyph.new graphic.new) frame.new ≡ called (seen half.now full.now phase) (state (memories text.old glyph.old graphic.old) control link) frame.old (event.Bit given) }
     ensures valid { InRange result.control }
 {
     let bit = Event::Bit(given);
@@ -76,7 +76,7 @@ pub fn select_low(
     phase: bool,
 ) -> LentOutcome
     requires { InRange control }
-    ensures frame_after { left result (after text glyph graphic) frame.new ≡ called (seen half full phase) (state (before text glyph graphic) control link) frame.old event.SelectLow }
+    ensures frame_after { left result (memories text.new glyph.new graphic.new) frame.new ≡ called (seen half.now full.now phase) (state (memories text.old glyph.old graphic.old) control link) frame.old event.SelectLow }
     ensures valid { InRange result.control }
 {
     let low = Event::SelectLow;
@@ -100,7 +100,7 @@ pub fn reset(
     phase: bool,
 ) -> LentOutcome
     requires { InRange control }
-    ensures frame_after { left result (after text glyph graphic) frame.new ≡ called (seen half full phase) (state (before text glyph graphic) control link) frame.old (event.Reset pin) }
+    ensures frame_after { left result (memories text.new glyph.new graphic.new) frame.new ≡ called (seen half.now full.now phase) (state (memories text.old glyph.old graphic.old) control link) frame.old (event.Reset pin) }
     ensures valid { InRange result.control }
 {
     let reset = Event::Reset(pin);
@@ -124,7 +124,7 @@ pub fn pass(
     phase: bool,
 ) -> LentOutcome
     requires { InRange control }
-    ensures frame_after { left result (after text glyph graphic) frame.new ≡ called (seen half full phase) (state (before text glyph graphic) control link) frame.old (event.Pass eights) }
+    ensures frame_after { left result (memories text.new glyph.new graphic.new) frame.new ≡ called (seen half.now full.now phase) (state (memories text.old glyph.old graphic.old) control link) frame.old (event.Pass eights) }
     ensures valid { InRange result.control }
 {
     let pass = Event::Pass(eights);

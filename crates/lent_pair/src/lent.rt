@@ -1,6 +1,6 @@
 // A clock of the wire on memories that a board keeps and lends. It leaves what the call by value leaves.
 ghost use Rattle.std.specs.Prelude.{◌≡◌};
-ghost use Rattle.controller.specs.Memories.{before, after};
+ghost use Rattle.controller.specs.Memories.{memories};
 ghost use Rattle.controller.specs.State.{InRange};
 ghost use Rattle.picture.specs.Picture.{seen};
 ghost use Rattle.lent_pair.specs.Pair.{side, pair_called};
@@ -68,7 +68,7 @@ pub fn bit(
     right_phase: bool,
 ) -> LentPairOutcome
     requires { InRange left.control × InRange right.control }
-    ensures right_frame_after { pair_lent result (after left_text left_glyph left_graphic) (after right_text right_glyph right_graphic) left_frame.new right_frame.new ≡ pair_called (side (seen left_half left_full left_phase) (kept_state (before left_text left_glyph left_graphic) left) left_frame.old) (side (seen right_half right_full right_phase) (kept_state (before right_text right_glyph right_graphic) right) right_frame.old) clock }
+    ensures right_frame_after { pair_lent result (memories left_text.new left_glyph.new left_graphic.new) (memories right_text.new right_glyph.new right_graphic.new) left_frame.new right_frame.new ≡ pair_called (side (seen left_half.now left_full.now left_phase) (kept_state (memories left_text.old left_glyph.old left_graphic.old) left) left_frame.old) (side (seen right_half.now right_full.now right_phase) (kept_state (memories right_text.old right_glyph.old right_graphic.old) right) right_frame.old) clock }
     ensures valid { InRange result.left.control × InRange result.right.control }
 {
     let left_link = left.link;

@@ -41,7 +41,7 @@ impl Pair {
         right_phase: bool,
     ) -> PairOutcome
         requires { Valid (state_of self.left) × Valid (state_of self.right) }
-        ensures right_frame_after { pair_handed result left_frame.new right_frame.new ≡ pair_called (side (seen left_half left_full left_phase) (state_of self.left) left_frame.old) (side (seen right_half right_full right_phase) (state_of self.right) right_frame.old) clock }
+        ensures right_frame_after { pair_handed result left_frame.new right_frame.new ≡ pair_called (side (seen left_half.now left_full.now left_phase) (state_of self.left) left_frame.old) (side (seen right_half.now right_full.now right_phase) (state_of self.right) right_frame.old) clock }
         ensures valid { Valid (state_of result.pair.left) × Valid (state_of result.pair.right) }
     {
         let left = self.left;

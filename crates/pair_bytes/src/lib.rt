@@ -2,7 +2,7 @@
 #![tactic(auto)]
 
 ghost use Rattle.std.specs.Prelude.{◌≤◌, ◌≡◌};
-ghost use Rattle.controller.specs.Memories.{before, after};
+ghost use Rattle.controller.specs.Memories.{memories};
 ghost use Rattle.picture.specs.Picture.{seen};
 ghost use Rattle.state_bytes.specs.Packed.{unpacked, packed};
 ghost use Rattle.state_bytes.specs.LinkPacked.{link_packed, unpacked_link};
@@ -66,7 +66,7 @@ pub fn bit(
     right_full: &[u8],
     right_phase: bool,
 ) -> u32
-    ensures { pair_report result (side_bytes (after left_text left_glyph left_graphic) left_control.new left_link.new left_frame.new) (side_bytes (after right_text right_glyph right_graphic) right_control.new right_link.new right_frame.new) ≡ pair_reported (seen left_half left_full left_phase) (side_bytes (before left_text left_glyph left_graphic) left_control.old left_link.old left_frame.old) (seen right_half right_full right_phase) (side_bytes (before right_text right_glyph right_graphic) right_control.old right_link.old right_frame.old) (record { bit = bit; left = left_select; right = right_select }) }
+    ensures { pair_report result (side_bytes (memories left_text.new left_glyph.new left_graphic.new) left_control.new left_link.new left_frame.new) (side_bytes (memories right_text.new right_glyph.new right_graphic.new) right_control.new right_link.new right_frame.new) ≡ pair_reported (seen left_half.now left_full.now left_phase) (side_bytes (memories left_text.old left_glyph.old left_graphic.old) left_control.old left_link.old left_frame.old) (seen right_half.now right_full.now right_phase) (side_bytes (memories right_text.old right_glyph.old right_graphic.old) right_control.old right_link.old right_frame.old) (record { bit = bit; left = left_select; right = right_select }) }
 {
     let left = kept(left_control, left_link);
     let right = kept(right_control, right_link);

@@ -59,7 +59,7 @@ impl Panel {
         phase: bool,
     ) -> Outcome
         requires { Valid (state_of self) }
-        ensures frame_after { handed result frame.new ≡ called (seen half full phase) (state_of self) frame.old event }
+        ensures frame_after { handed result frame.new ≡ called (seen half.now full.now phase) (state_of self) frame.old event }
         ensures valid { Valid (state_of result.panel) }
     {
         let mut text = self.text;
@@ -93,7 +93,7 @@ impl Panel {
         phase: bool,
     ) -> Outcome
         requires { Valid (state_of self) }
-        ensures frame_after { handed result frame.new ≡ called (seen half full phase) (state_of self) frame.old (event.Transfer given) }
+        ensures frame_after { handed result frame.new ≡ called (seen half.now full.now phase) (state_of self) frame.old (event.Transfer given) }
         ensures valid { Valid (state_of result.panel) }
     {
         self.call(Event::Transfer(given), frame, half, full, phase)
@@ -110,7 +110,7 @@ impl Panel {
         phase: bool,
     ) -> Outcome
         requires { Valid (state_of self) }
-        ensures frame_after { handed result frame.new ≡ called (seen half full phase) (state_of self) frame.old (event.Bit given) }
+        ensures frame_after { handed result frame.new ≡ called (seen half.now full.now phase) (state_of self) frame.old (event.Bit given) }
         ensures valid { Valid (state_of result.panel) }
     {
         self.call(Event::Bit(given), frame, half, full, phase)
@@ -120,7 +120,7 @@ impl Panel {
     #[tactic(auto, unfolding(calls::specs::Calls::called))]
     pub fn select_low(self, frame: &mut [u8], half: &[u8], full: &[u8], phase: bool) -> Outcome
         requires { Valid (state_of self) }
-        ensures frame_after { handed result frame.new ≡ called (seen half full phase) (state_of self) frame.old event.SelectLow }
+        ensures frame_after { handed result frame.new ≡ called (seen half.now full.now phase) (state_of self) frame.old event.SelectLow }
         ensures valid { Valid (state_of result.panel) }
     {
         self.call(Event::SelectLow, frame, half, full, phase)
@@ -130,7 +130,7 @@ impl Panel {
     #[tactic(auto, unfolding(calls::specs::Calls::called))]
     pub fn reset(self, pin: Pin, frame: &mut [u8], half: &[u8], full: &[u8], phase: bool) -> Outcome
         requires { Valid (state_of self) }
-        ensures frame_after { handed result frame.new ≡ called (seen half full phase) (state_of self) frame.old (event.Reset pin) }
+        ensures frame_after { handed result frame.new ≡ called (seen half.now full.now phase) (state_of self) frame.old (event.Reset pin) }
         ensures valid { Valid (state_of result.panel) }
     {
         self.call(Event::Reset(pin), frame, half, full, phase)
@@ -147,7 +147,7 @@ impl Panel {
         phase: bool,
     ) -> Outcome
         requires { Valid (state_of self) }
-        ensures frame_after { handed result frame.new ≡ called (seen half full phase) (state_of self) frame.old (event.Pass eights) }
+        ensures frame_after { handed result frame.new ≡ called (seen half.now full.now phase) (state_of self) frame.old (event.Pass eights) }
         ensures valid { Valid (state_of result.panel) }
     {
         self.call(Event::Pass(eights), frame, half, full, phase)
@@ -156,7 +156,7 @@ impl Panel {
     // The whole picture, drawn afresh into the frame; answers the refusal number.
     #[tactic(auto, unfolding(picture::specs::Refusals::drawn))]
     pub fn draw(self, frame: &mut [u8], half: &[u8], full: &[u8], phase: bool) -> u8
-        ensures { drawing result frame.new ≡ drawn (seen half full phase) (memories_of self) self.control frame.old }
+        ensures { drawing result frame.new ≡ drawn (seen half.now full.now phase) (memories_of self) self.control frame.old }
     {
         let text = self.text;
         let glyph = self.glyph;

@@ -9,7 +9,7 @@ use Rattle.controller.specs.declared.View.{View}
 use Rattle.controller.specs.declared.Cell.{Cell}
 use Rattle.controller.specs.declared.Cell.TheVariants.{Nowhere, Word}
 use Rattle.controller.specs.declared.Control.{Control}
-use Rattle.controller.specs.Memories.{Memories, Lent, word_place, graphic_place}
+use Rattle.controller.specs.Memories.{Memories, word_place, graphic_place}
 use Rattle.controller.specs.Named.{counter_cell}
 use Rattle.controller.specs.Glass.{shown_row, shown_word}
 use Rattle.glyph.specs.declared.Content.{Content}
@@ -22,16 +22,16 @@ pub record Fonts : Type 0 where
   pub half : List ℕ
   pub full : List ℕ
 
--- the same, as a contract names what it was lent
-abbrev pub fonts : Lent → Lent → Fonts
-fonts half full = record { half = half.entry.now; full = full.entry.now }
+-- the same, of their bytes
+abbrev pub fonts : List ℕ → List ℕ → Fonts
+fonts half full = record { half = half; full = full }
 
 -- what a call is seen with: the lent fonts and the blink phase
 pub record Seen : Type 0 where
   pub fonts : Fonts
   pub phase : Bool
 
-abbrev pub seen : Lent → Lent → Bool → Seen
+abbrev pub seen : List ℕ → List ℕ → Bool → Seen
 seen half full phase = record { fonts = fonts half full; phase = phase }
 
 -- what the picture looks at beside the memories: the view; the counter's cell, if target is text, with its marks, the cursor and blink with

@@ -1,6 +1,6 @@
 // Single bytes of the picture, and the painter of one row of a cell.
 ghost use Rattle.std.specs.Prelude.{◌≡◌, ◌<◌, length};
-ghost use Rattle.controller.specs.Memories.{before};
+ghost use Rattle.controller.specs.Memories.{memories};
 ghost use Rattle.picture.specs.Picture.{fonts, byte_over, byte_at};
 ghost use Rattle.picture.specs.Tiles.{pair_stored};
 
@@ -56,7 +56,7 @@ pub fn byte_at(
     full: &[u8],
 ) -> u8
     requires { (row < 32) × (column < 32) × (length half.now ≡ 2048) }
-    ensures { result ≡ byte_at (fonts half full) (before text glyph graphic) look row column }
+    ensures { result ≡ byte_at (fonts half.now full.now) (memories text.now glyph.now graphic.now) look row column }
 {
     let view = look.view;
     let numbering = view.numbering;

@@ -37,7 +37,7 @@ fn run(
 ) -> Stop
     requires valid_2 { Valid (state_of panel) }
     requires place_value { telling ≡ false → place ≡ 0 }
-    ensures text_after { left_by result frame.new text.new ≡ told telling place text.old (replayed (seen half full phase) (room_of telling (length text.old)) capture.now (state_of panel) frame.old place) }
+    ensures text_after { left_by result frame.new text.new ≡ told telling place text.old (replayed (seen half.now full.now phase) (room_of telling (length text.old)) capture.now (state_of panel) frame.old place) }
     ensures valid { Valid (state_of result.panel) }
     ensures counts { Counts result.filled text.new }
 {
@@ -114,7 +114,7 @@ pub fn replay(
     phase: bool,
 ) -> Stop
     requires { Valid (state_of panel) }
-    ensures frame_after { left_by result frame.new [] ≡ replayed_silently (seen half full phase) capture.now (state_of panel) frame.old }
+    ensures frame_after { left_by result frame.new [] ≡ replayed_silently (seen half.now full.now phase) capture.now (state_of panel) frame.old }
     ensures valid { Valid (state_of result.panel) }
 {
     let mut none = [0u8; 0];
@@ -138,7 +138,7 @@ pub fn transcribe(
     text: &mut [u8],
 ) -> Stop
     requires { Valid (state_of panel) }
-    ensures text_after { left_by result frame.new text.new ≡ transcribed (seen half full phase) capture.now (state_of panel) frame.old place text.old }
+    ensures text_after { left_by result frame.new text.new ≡ transcribed (seen half.now full.now phase) capture.now (state_of panel) frame.old place text.old }
     ensures valid { Valid (state_of result.panel) }
     ensures counts { Counts result.filled text.new }
 {

@@ -23,7 +23,7 @@ fn eight_bits(
     phase: bool,
 ) -> Outcome
     requires { Valid (state_of panel) }
-    ensures frame_after { handed result frame.new ≡ called_in_turn (seen half full phase) (state_of panel) frame.old (asks eight_bits value) }
+    ensures frame_after { handed result frame.new ≡ called_in_turn (seen half.now full.now phase) (state_of panel) frame.old (asks eight_bits value) }
     ensures valid { Valid (state_of result.panel) }
 {
     let first = panel.bit((value >> 7) % 2 == 1, frame, half, full, phase);
@@ -89,7 +89,7 @@ pub fn obey(
     phase: bool,
 ) -> Outcome
     requires { Valid (state_of panel) }
-    ensures frame_after { handed result frame.new ≡ record_called (seen half full phase) kind value (state_of panel) frame.old }
+    ensures frame_after { handed result frame.new ≡ record_called (seen half.now full.now phase) kind value (state_of panel) frame.old }
     ensures valid { Valid (state_of result.panel) }
 {
     if kind == 4 {

@@ -2,7 +2,7 @@
 #![tactic(auto)]
 
 ghost use Rattle.std.specs.Prelude.{◌≡◌, ◌≤◌, length};
-ghost use Rattle.controller.specs.Memories.{before};
+ghost use Rattle.controller.specs.Memories.{memories};
 ghost use Rattle.controller.specs.declared.Region.TheVariants.{Cells};
 ghost use Rattle.picture.specs.Picture.{fonts, wide};
 ghost use Rattle.repaint.specs.Repaint.{ViewWithin, painting, repaint, CellWithin, RegionWithin, most_of, same_cell};
@@ -39,7 +39,7 @@ fn paint_cells(
     full: &[u8],
 ) -> u32
     requires { ViewWithin look.view × CellWithin a × CellWithin b × (length frame.old ≡ 1024) × (length half.now ≡ 2048) }
-    ensures { painting result frame.new ≡ repaint wide (fonts half full) (before text glyph graphic) look (Cells a b) frame.old }
+    ensures { painting result frame.new ≡ repaint wide (fonts half.now full.now) (memories text.now glyph.now graphic.now) look (Cells a b) frame.old }
 {
     let first = paint_cell(text, glyph, graphic, look, a, frame, half, full);
     if same_cell(a, b) {
@@ -60,7 +60,7 @@ pub fn paint(
     full: &[u8],
 ) -> usize
     requires { ViewWithin look.view × RegionWithin region × (length frame.old ≡ 1024) × (length half.now ≡ 2048) }
-    ensures frame_after { painting result frame.new ≡ repaint wide (fonts half full) (before text glyph graphic) look region frame.old }
+    ensures frame_after { painting result frame.new ≡ repaint wide (fonts half.now full.now) (memories text.now glyph.now graphic.now) look region frame.old }
     ensures most { result ≤ most_of region }
 {
     match region {

@@ -1,7 +1,7 @@
 // A cell: its two columns on the visible rows of its line.
 ghost use Rattle.std.specs.Prelude.{◌≡◌, ◌+◌, ◌*◌, ◌<◌, ◌≤◌, length};
 ghost use Rattle.base.specs.Layout.{painted_on, rows};
-ghost use Rattle.controller.specs.Memories.{before};
+ghost use Rattle.controller.specs.Memories.{memories};
 ghost use Rattle.controller.specs.Named.{in_cell, in_some_cell};
 ghost use Rattle.picture.specs.Picture.{fonts, byte_at, wide};
 ghost use Rattle.picture.specs.Tiles.{shown_by, in_cell_row};
@@ -97,7 +97,7 @@ fn paint_word(
     full: &[u8],
 ) -> u32
     requires { ViewWithin look.view × (word < 64) × (length frame.old ≡ 1024) × (length half.now ≡ 2048) }
-    ensures { painting result frame.new ≡ paints_on wide (in_cell look.view word) (byte_at (fonts half full) (before text glyph graphic) look) frame.old }
+    ensures { painting result frame.new ≡ paints_on wide (in_cell look.view word) (byte_at (fonts half.now full.now) (memories text.now glyph.now graphic.now) look) frame.old }
 {
     let scroll = look.view.scroll as u32;
     let line = word / 16;
@@ -125,7 +125,7 @@ pub fn paint_cell(
     full: &[u8],
 ) -> u32
     requires { ViewWithin look.view × CellWithin cell × (length frame.old ≡ 1024) × (length half.now ≡ 2048) }
-    ensures { painting result frame.new ≡ paints_on wide (in_some_cell look.view cell) (byte_at (fonts half full) (before text glyph graphic) look) frame.old }
+    ensures { painting result frame.new ≡ paints_on wide (in_some_cell look.view cell) (byte_at (fonts half.now full.now) (memories text.now glyph.now graphic.now) look) frame.old }
 {
     match cell {
         Cell::Nowhere => 0,

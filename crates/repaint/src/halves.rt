@@ -1,7 +1,7 @@
 // A half of a glyph or graphic word: the bytes that show it, one by one; the other byte of each pair keeps what it held.
 ghost use Rattle.std.specs.Prelude.{◌≡◌, ◌+◌, ◌*◌, ◌%◌, ◌<◌, length, get_or};
 ghost use Rattle.base.specs.Layout.{rows, columns};
-ghost use Rattle.controller.specs.Memories.{before, word_place};
+ghost use Rattle.controller.specs.Memories.{word_place, memories};
 ghost use Rattle.controller.specs.Glass.{word_image, is_image};
 ghost use Rattle.controller.specs.Named.{shows_glyph};
 ghost use Rattle.picture.specs.Picture.{fonts, byte_over, byte_at, wide};
@@ -115,7 +115,7 @@ pub fn paint_graphic_byte(
     full: &[u8],
 ) -> u32
     requires { ViewWithin look.view × (y < 64) × (column < 32) × (length frame.old ≡ 1024) × (length half.now ≡ 2048) }
-    ensures { painting result frame.new ≡ paints_on wide (shows_place look.view y column) (byte_at (fonts half full) (before text glyph graphic) look) frame.old }
+    ensures { painting result frame.new ≡ paints_on wide (shows_place look.view y column) (byte_at (fonts half.now full.now) (memories text.now glyph.now graphic.now) look) frame.old }
 {
     let row = (y + 64 - look.view.scroll as u32) % 64;
     if row < 32 {

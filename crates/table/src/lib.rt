@@ -83,6 +83,7 @@ pub fn decode(modes: Modes, byte: u8) -> Instruction
 }
 
 // The column RE = 0.
+#[tactic(auto, unfolding(crate::specs::Table::row_of))]
 fn basic(modes: Modes, byte: u8) -> Instruction
     ensures { result ≡ basic_column modes byte }
 {
@@ -108,6 +109,7 @@ fn basic(modes: Modes, byte: u8) -> Instruction
 }
 
 // The column RE = 1. Codes that are ignored alike keep an arm each, as they have a row each.
+#[tactic(auto, unfolding(crate::specs::Table::row_of))]
 fn extended(modes: Modes, byte: u8) -> Instruction
     ensures { result ≡ extended_column modes byte }
 {

@@ -27,7 +27,7 @@ fn lay_word(
     full: &[u8],
 )
     requires { (word < 64) × (to + 32 ≤ length tiles.old) × (length half.now ≡ 2048) }
-    ensures { tiles.new ≡ painted (between to (to + 32) everywhere) (λ i. word_dots (fonts half full) text.now glyph.now numbering word (i - to)) tiles.old }
+    ensures { tiles.new ≡ painted (between to (to + 32) everywhere) (λ i. word_dots (fonts half.now full.now) text.now glyph.now numbering word (i - to)) tiles.old }
 {
     let shown = word_content(text, numbering, word, full.len());
     lay(shown, tiles, to, glyph, half, full);
@@ -46,7 +46,7 @@ fn lay_words(
     full: &[u8],
 )
     requires { (shift < 256) × (line < 4) × (length tiles.old ≡ 512) × (length half.now ≡ 2048) }
-    ensures { tiles.new ≡ upto 512 (by_tile (λ cell j. word_dots (fonts half full) text.now glyph.now numbering (line_word shift line cell) j)) }
+    ensures { tiles.new ≡ upto 512 (by_tile (λ cell j. word_dots (fonts half.now full.now) text.now glyph.now numbering (line_word shift line cell) j)) }
 {
     let mut cell: u32 = 0;
     while cell < 16 {
@@ -122,7 +122,7 @@ pub fn lay_line(
     full: &[u8],
 )
     requires { (line < 4) × (length tiles.old ≡ 512) × (length half.now ≡ 2048) }
-    ensures { tiles.new ≡ upto 512 (by_tile (λ cell j. tile_byte (fonts half full) text.now glyph.now look (line_word look.view.shift line cell) j)) }
+    ensures { tiles.new ≡ upto 512 (by_tile (λ cell j. tile_byte (fonts half.now full.now) text.now glyph.now look (line_word look.view.shift line cell) j)) }
 {
     let view = look.view;
     let numbering = view.numbering;
@@ -155,7 +155,7 @@ pub fn lay_tile(
     full: &[u8],
 )
     requires { (word < 64) × (length tile.old ≡ 32) × (length half.now ≡ 2048) }
-    ensures { tile.new ≡ upto 32 (tile_byte (fonts half full) text.now glyph.now look word) }
+    ensures { tile.new ≡ upto 32 (tile_byte (fonts half.now full.now) text.now glyph.now look word) }
 {
     let view = look.view;
     let numbering = view.numbering;
