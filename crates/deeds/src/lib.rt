@@ -184,7 +184,7 @@ fn on_time(
 }
 
 // Everything as fresh.
-#[tactic(auto, unfolding(controller::specs::Memories::fresh_memories, controller::specs::State::fresh_control))]
+#[tactic(auto, unfolding(controller::specs::Memories::fresh_memories))]
 fn restart(
     text: &mut [u8; 128],
     glyph: &mut [u8; 128],
