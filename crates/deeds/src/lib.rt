@@ -184,7 +184,6 @@ fn on_time(
 }
 
 // Everything as fresh.
-#[tactic(auto, unfolding(controller::specs::Memories::fresh_memories))]
 fn restart(
     text: &mut [u8; 128],
     glyph: &mut [u8; 128],
