@@ -3,10 +3,9 @@ ghost use Rattle.std.specs.Prelude.{◌≡◌, ◌+◌, ◌≤◌, length};
 ghost use Rattle.asked.specs.Counts.{IsPrefixLen};
 
 use crate::saying::{failed, wrong_length};
-use host::opened;
+use host::{opened, word_at};
 use std::io;
 use std::io::Read;
-use std::rt::Env;
 
 // How many bytes came, and whether that went well; where it did not, it has been said.
 #[derive(Clone, Copy)]
@@ -97,14 +96,6 @@ fn load(rt: &HostRuntime, name: &[u8], buffer: &mut [u8]) -> Loaded
             Loaded { count, well: false }
         }
         None => Loaded { count, well: true },
-    }
-}
-
-// The word at a place of the command line; none where there is no such word or it does not fit.
-pub fn word_at<'a>(rt: &HostRuntime, at: usize, room: &'a mut [u8; 4096]) -> &'a [u8] {
-    match rt.arg(at, room) {
-        Ok(n) => &room[..n],
-        Err(_) => &[],
     }
 }
 

@@ -18,6 +18,14 @@ pub fn word_count(rt: &impl Env) -> usize {
     usize::MAX
 }
 
+// The word at a place of the command line; none where there is no such word or it does not fit.
+pub fn word_at<'a>(rt: &impl Env, at: usize, room: &'a mut [u8; 4096]) -> &'a [u8] {
+    match rt.arg(at, room) {
+        Ok(n) => &room[..n],
+        Err(_) => &[],
+    }
+}
+
 // A file by its name. A name is text in UTF-8; there is no other way to open one.
 fn path_in(name: &[u8]) -> io::Result<&str> {
     match str::from_utf8(name) {
