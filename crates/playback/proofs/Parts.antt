@@ -104,9 +104,10 @@ module _ (e : Seen) where
   unfolding records_replayed
   stays-refused last h room [] s f n = rw h
   stays-refused last h room (r ∷ xs) s f n =
+      let k : Called = record_called e r.kind r.value s f in
       either (λ (x : Replayed). ended x.ending ≡ false) (not (room_for room n)) refl
-      (either-told (λ (x : Replayed). ended x.ending ≡ false) (eqb (record_called e r.kind r.value s f).number 0)
-      (λ t. stays-refused last h _ xs _ _ _)
+      (either-told (λ (x : Replayed). ended x.ending ≡ false) (eqb k.number 0)
+      (λ t. stays-refused last h (room_behind room (line n (answer_from r.kind k))) xs k.state k.frame (n + 1))
       (λ t. rw t))
 
   replayed-by-stop :
@@ -123,9 +124,10 @@ module _ (e : Seen) where
   unfolding records_replayed
   replayed-length last room [] s f n = refl
   replayed-length last room (r ∷ xs) s f n =
+      let k : Called = record_called e r.kind r.value s f in
       either (λ (x : Replayed). length x.ending.frame ≡ length f) (not (room_for room n)) refl
-      (either (λ (x : Replayed). length x.ending.frame ≡ length f) (eqb (record_called e r.kind r.value s f).number 0)
-      (replayed-length last _ xs _ _ _ ∙ record_length e r.kind r.value s f)
+      (either (λ (x : Replayed). length x.ending.frame ≡ length f) (eqb k.number 0)
+      (replayed-length last (room_behind room (line n (answer_from r.kind k))) xs k.state k.frame (n + 1) ∙ record_length e r.kind r.value s f)
       refl)
 
   replayed_timed :
@@ -134,9 +136,10 @@ module _ (e : Seen) where
   unfolding records_replayed
   replayed_timed last room [] s f n = refl
   replayed_timed last room (r ∷ xs) s f n =
+      let k : Called = record_called e r.kind r.value s f in
       either (λ (x : Replayed). x.ending.state.control.time.timed ≡ s.control.time.timed) (not (room_for room n)) refl
-      (either (λ (x : Replayed). x.ending.state.control.time.timed ≡ s.control.time.timed) (eqb (record_called e r.kind r.value s f).number 0)
-      (replayed_timed last _ xs _ _ _ ∙ record_timed e r.kind r.value s f)
+      (either (λ (x : Replayed). x.ending.state.control.time.timed ≡ s.control.time.timed) (eqb k.number 0)
+      (replayed_timed last (room_behind room (line n (answer_from r.kind k))) xs k.state k.frame (n + 1) ∙ record_timed e r.kind r.value s f)
       refl)
 
   -- where frame and fonts are not refused, nothing is asked of them again; and the next part is read as the first was
@@ -179,9 +182,10 @@ module _ (e : Seen) where
   unfolding records_replayed
   records-place last room [] s f n = omega arith
   records-place last room (r ∷ xs) s f n =
+      let k : Called = record_called e r.kind r.value s f in
       either (λ (x : Replayed). x.ending.place ≡ n + length x.answers) (not (room_for room n)) (omega arith)
-      (either (λ (x : Replayed). x.ending.place ≡ n + length x.answers) (eqb (record_called e r.kind r.value s f).number 0)
-      (records-place last _ xs _ _ _ ∙ omega arith)
+      (either (λ (x : Replayed). x.ending.place ≡ n + length x.answers) (eqb k.number 0)
+      (records-place last (room_behind room (line n (answer_from r.kind k))) xs k.state k.frame (n + 1) ∙ omega arith)
       (omega arith))
 
   pub replayed-place :
