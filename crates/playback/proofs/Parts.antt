@@ -1,6 +1,6 @@
 -- A capture replayed in parts of whole records: its records are those of the parts, and each part begins where the one before it ended.
 use Prim.Native.Nat.{ℕ, zero, suc, ◌+◌, ◌-◌}
-use mathlib.Core.Bool.{Bool, true, false, not, ◌&&◌, true≢false}
+use mathlib.Core.Bool.{Bool, true, false, not}
 use mathlib.Core.List.{List, [], ◌∷◌, ◌++◌, append_assoc}
 use mathlib.Core.Path.{◌≡◌, refl, sym, ap, subst, ◌∙◌}
 use native.Mathlib.Omega.{arith}
@@ -21,9 +21,9 @@ use Rattle.reader.specs.Capture.{Recorded, Contents}
 use Rattle.reader.proofs.Contents.{joined_at, contents-of-parts, Stops, contents-stop}
 use Rattle.records.specs.Records.{record_called}
 use Rattle.printed.specs.Text.{RecordAnswer, line, lines}
-use Rattle.playback.specs.Replay.{Ending, Replayed, Room, endless, bytes, room_for, room_behind, ended, halted, after_answers, records_replayed, read_by, replayed}
-use Rattle.playback.specs.Transcript.{Told, told, transcribed}
-use Rattle.playback.specs.Statements.{gone_on, PartsReplayAsWhole, Joins, TranscribesAsWhole, PartsTranscribeAsWhole}
+use Rattle.playback.specs.Replay.{Replayed, Room, endless, bytes, room_for, room_behind, ended, halted, after_answers, records_replayed, read_by, replayed}
+use Rattle.playback.specs.Transcript.{told, transcribed}
+use Rattle.playback.specs.Statements.{gone_on, PartsReplayAsWhole, Joins, PartsTranscribeAsWhole}
 use Rattle.playback.proofs.Answers.{answer_from}
 use Rattle.records.proofs.Refused.{record_timed, record_length}
 
