@@ -1,4 +1,5 @@
 -- Refused, or the parts that the callees give.
+use Rattle.std.proofs.Common.{◌≤◌, arith}
 use Rattle.state_bytes.proofs.PackedUnpacked.{unpacked_in_range}
 use Rattle.pair_bytes.proofs.Told.{spelled_in_range, counts-within, turned_away, told}
 use Rattle.pair_bytes.proofs.bit.Goals as goal
@@ -13,7 +14,9 @@ returns-then-outcome-ne0 c =
 
 pub answer-requires : goal.answer-requires
 answer-requires c =
-    counts-within _ _ _ _ _ c.kept-left.ensures c.kept-right.ensures _ c.bit-outcome.ensures.right_frame_after
+    let within : (c.bit-outcome.result.counts.left ≤ 1024) × (c.bit-outcome.result.counts.right ≤ 1024) =
+    counts-within _ _ _ _ _ c.kept-left.ensures c.kept-right.ensures _ c.bit-outcome.ensures.right_frame_after in
+    (omega arith, omega arith)
 
 pub returns : goal.returns
 returns c =
