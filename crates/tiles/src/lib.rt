@@ -15,7 +15,6 @@ use picture::shown::{shown_row, word_content};
 use picture::{Look, TwoBytes};
 
 // The word's dots, as the tile that begins at `to`.
-#[tactic(auto, unfolding(base::specs::Painting::painted, base::specs::Painting::between))]
 fn lay_word(
     text: &[u8; 128],
     glyph: &[u8; 128],
@@ -34,7 +33,6 @@ fn lay_word(
 }
 
 // The dots of all sixteen cells.
-#[tactic(auto, unfolding(base::specs::Lists::upto))]
 fn lay_words(
     text: &[u8; 128],
     glyph: &[u8; 128],
@@ -69,7 +67,6 @@ fn fill_cursor(tiles: &mut [u8], at: usize, on: bool)
     }
 }
 
-#[tactic(auto, unfolding(base::specs::Painting::painted, base::specs::Painting::between))]
 fn invert(tiles: &mut [u8], from: u32, to: u32)
     requires { (from ≤ to) × (to ≤ length tiles.old) }
     ensures { tiles.new ≡ painted (between from to everywhere) (λ i. 0xFF - get_or tiles.old i 0) tiles.old }
@@ -111,7 +108,6 @@ fn counter_tile(counter: u32, shift: u32) -> u32
 }
 
 // All sixteen tiles of a line, with everything over them but the graphic.
-#[tactic(auto, unfolding(base::specs::Lists::upto, picture::specs::Tiles::tile_byte))]
 pub fn lay_line(
     text: &[u8; 128],
     glyph: &[u8; 128],
@@ -144,7 +140,6 @@ pub fn lay_line(
 }
 
 // The tile of one word, likewise.
-#[tactic(auto, unfolding(base::specs::Lists::upto, picture::specs::Tiles::tile_byte))]
 pub fn lay_tile(
     text: &[u8; 128],
     glyph: &[u8; 128],

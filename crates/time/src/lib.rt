@@ -49,6 +49,7 @@ fn instruction_cost(touch: Touch) -> u16
     }
 }
 
+#[tactic(auto, unfolding(table::specs::Table::said))]
 pub fn cost(control: Control, transfer: Transfer) -> u16
     ensures { result ≡ cost control transfer }
 {
@@ -64,6 +65,7 @@ pub fn cost(control: Control, transfer: Transfer) -> u16
 }
 
 // What costs something makes a panel with time busy for as long.
+#[tactic(auto, unfolding(table::specs::Table::said))]
 pub fn charged(time: Time, cost: u16) -> Time
     ensures { result ≡ charged cost time }
 {
