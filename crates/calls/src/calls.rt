@@ -75,7 +75,6 @@ fn timeless(control: Control, event: Event) -> bool
 }
 
 // An event comes to the panel.
-#[tactic(auto, unfolding(crate::specs::Calls::called))]
 pub fn call(
     text: &mut [u8; 128],
     glyph: &mut [u8; 128],

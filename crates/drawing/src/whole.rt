@@ -14,7 +14,6 @@ use picture::shown::shown_row;
 use tiles::lay_line;
 
 // Nothing shows.
-#[tactic(auto, unfolding(base::specs::Lists::upto))]
 fn clear(frame: &mut [u8])
     requires { length frame.old ≡ 1024 }
     ensures { frame.new ≡ upto 1024 (λ i. 0) }
@@ -27,7 +26,6 @@ fn clear(frame: &mut [u8])
 }
 
 // Row y of each tile of the line goes to row `row` of the glass.
-#[tactic(auto, unfolding(base::specs::Painting::painted, base::specs::Painting::between))]
 fn hand_row(tiles: &[u8; 512], y: u32, row: u32, frame: &mut [u8])
     requires { (y < 16) × (row < 32) × (length frame.old ≡ 1024) }
     ensures { frame.new ≡ painted (between (32 * row) (32 * row + 32) everywhere) (from_tiles tiles.now y) frame.old }
@@ -46,7 +44,6 @@ fn hand_row(tiles: &[u8; 512], y: u32, row: u32, frame: &mut [u8])
 }
 
 // The rows of the glass from `row` up to `end` show the line's rows from y on.
-#[tactic(auto, unfolding(base::specs::Painting::painted, base::specs::Painting::between))]
 fn hand_out(tiles: &[u8; 512], scroll: u32, row: u32, end: u32, frame: &mut [u8])
     requires { (scroll < 256) × (row ≤ end) × (end ≤ 32) × (length frame.old ≡ 1024) }
     ensures { frame.new ≡ painted (between (32 * row) (32 * end) everywhere) (λ i. from_tiles tiles.now ((i / 32 + scroll) % 16) i) frame.old }
@@ -58,7 +55,6 @@ fn hand_out(tiles: &[u8; 512], scroll: u32, row: u32, end: u32, frame: &mut [u8]
     }
 }
 
-#[tactic(auto, unfolding(base::specs::Painting::painted, base::specs::Painting::between))]
 fn overlay_run(graphic: &[u8; 2048], from: usize, frame: &mut [u8], to: usize, count: u32)
     requires { (from + count ≤ 2048) × (to + count ≤ length frame.old) }
     ensures { frame.new ≡ painted (between to (to + count) everywhere) (λ i. bit_xor (get_or frame.old i 0) (get_or graphic.now (from + (i - to)) 0)) frame.old }
@@ -72,7 +68,6 @@ fn overlay_run(graphic: &[u8; 2048], from: usize, frame: &mut [u8], to: usize, c
 }
 
 // The graphic bytes from `from` on over those of the frame from `to` on, if G.
-#[tactic(auto, unfolding(base::specs::Painting::painted, base::specs::Painting::between))]
 fn overlay_if(graphic: &[u8; 2048], from: usize, frame: &mut [u8], to: usize, count: u32, on: bool)
     requires { (from + count ≤ 2048) × (to + count ≤ length frame.old) }
     ensures { frame.new ≡ painted (between to (to + count) everywhere) (λ i. overlaid on (get_or graphic.now (from + (i - to)) 0) (get_or frame.old i 0)) frame.old }
@@ -94,7 +89,6 @@ fn band_end(row: u32, s: u32) -> u32
 }
 
 // The rows from `row` on that show the same line, painted; answers the row after them.
-#[tactic(auto, unfolding(picture::specs::Picture::byte_at))]
 fn paint_band(
     text: &[u8; 128],
     glyph: &[u8; 128],
@@ -127,7 +121,6 @@ fn paint_band(
 }
 
 // Paints every byte of the glass.
-#[tactic(auto, unfolding(picture::specs::Picture::picture))]
 pub fn paint_whole(
     text: &[u8; 128],
     glyph: &[u8; 128],

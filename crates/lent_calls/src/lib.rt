@@ -15,7 +15,6 @@ use events::{Event, Pin, Transfer};
 use links::Link;
 
 // A transfer of the parallel link.
-#[tactic(auto, unfolding(calls::specs::Calls::called))]
 pub fn transfer(
     text: &mut [u8; 128],
     glyph: &mut [u8; 128],
@@ -39,7 +38,6 @@ pub fn transfer(
 }
 
 // One bit of the serial link, with chip select high.
-#[tactic(auto, unfolding(calls::specs::Calls::called))]
 pub fn bit(
     text: &mut [u8; 128],
     glyph: &mut [u8; 128],
@@ -63,7 +61,6 @@ pub fn bit(
 }
 
 // Chip select low on the serial link.
-#[tactic(auto, unfolding(calls::specs::Calls::called))]
 pub fn select_low(
     text: &mut [u8; 128],
     glyph: &mut [u8; 128],
@@ -86,7 +83,6 @@ pub fn select_low(
 }
 
 // Reset with the interface pin and the numbering that it chooses, on either link.
-#[tactic(auto, unfolding(calls::specs::Calls::called))]
 pub fn reset(
     text: &mut [u8; 128],
     glyph: &mut [u8; 128],
@@ -110,7 +106,6 @@ pub fn reset(
 }
 
 // So many times 8 microseconds pass, on either link.
-#[tactic(auto, unfolding(calls::specs::Calls::called))]
 pub fn pass(
     text: &mut [u8; 128],
     glyph: &mut [u8; 128],

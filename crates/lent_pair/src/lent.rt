@@ -47,7 +47,6 @@ fn refused(left: Kept, right: Kept, number: u8) -> LentPairOutcome
 }
 
 // Each panel takes what comes to it: the bit, or that its select is low. What that names is painted into its frame, and counted.
-#[tactic(auto, unfolding(crate::specs::Pair::pair_called))]
 pub fn bit(
     left_text: &mut [u8; 128],
     left_glyph: &mut [u8; 128],

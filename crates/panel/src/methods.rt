@@ -34,7 +34,6 @@ fn handed_on(text: [u8; 128], glyph: [u8; 128], graphic: [u8; 2048], answer: Len
 
 impl Panel {
     // A panel as it is when it has just been made.
-    #[tactic(auto, unfolding(calls::specs::State::fresh_state))]
     pub fn fresh(made: Made) -> Panel
         ensures result_value { state_of result ≡ fresh_state made }
         ensures valid { Valid (state_of result) }
@@ -49,7 +48,6 @@ impl Panel {
     }
 
     // An event comes to the panel: the memories are taken into locals once and lent, and the state is put together once.
-    #[tactic(auto, unfolding(calls::specs::Calls::called))]
     pub fn call(
         self,
         event: Event,
@@ -83,7 +81,6 @@ impl Panel {
     }
 
     // A transfer of the parallel link.
-    #[tactic(auto, unfolding(calls::specs::Calls::called))]
     pub fn transfer(
         self,
         given: Transfer,
@@ -100,7 +97,6 @@ impl Panel {
     }
 
     // One bit of the serial link, with chip select high.
-    #[tactic(auto, unfolding(calls::specs::Calls::called))]
     pub fn bit(
         self,
         given: bool,
@@ -117,7 +113,6 @@ impl Panel {
     }
 
     // Chip select low on the serial link.
-    #[tactic(auto, unfolding(calls::specs::Calls::called))]
     pub fn select_low(self, frame: &mut [u8], half: &[u8], full: &[u8], phase: bool) -> Outcome
         requires { Valid (state_of self) }
         ensures frame_after { handed result frame.new ≡ called (seen half.now full.now phase) (state_of self) frame.old event.SelectLow }
@@ -127,7 +122,6 @@ impl Panel {
     }
 
     // Reset with the interface pin and the numbering that it chooses, on either link.
-    #[tactic(auto, unfolding(calls::specs::Calls::called))]
     pub fn reset(self, pin: Pin, frame: &mut [u8], half: &[u8], full: &[u8], phase: bool) -> Outcome
         requires { Valid (state_of self) }
         ensures frame_after { handed result frame.new ≡ called (seen half.now full.now phase) (state_of self) frame.old (event.Reset pin) }
@@ -137,7 +131,6 @@ impl Panel {
     }
 
     // So many times 8 microseconds pass, on either link.
-    #[tactic(auto, unfolding(calls::specs::Calls::called))]
     pub fn pass(
         self,
         eights: u8,
@@ -154,7 +147,6 @@ impl Panel {
     }
 
     // The whole picture, drawn afresh into the frame; answers the refusal number.
-    #[tactic(auto, unfolding(picture::specs::Refusals::drawn))]
     pub fn draw(self, frame: &mut [u8], half: &[u8], full: &[u8], phase: bool) -> u8
         ensures { drawing result frame.new ≡ drawn (seen half.now full.now phase) (memories_of self) self.control frame.old }
     {

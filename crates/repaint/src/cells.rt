@@ -42,7 +42,6 @@ fn run_end(scroll: u32, line: u32) -> u32
 }
 
 // One row of one cell: the row painter is lent its two bytes, a part from the middle of the frame.
-#[tactic(auto, unfolding(picture::specs::Tiles::shown_by))]
 fn paint_cell_row(
     tile: &[u8; 32],
     graphic: &[u8; 2048],
@@ -61,7 +60,6 @@ fn paint_cell_row(
 }
 
 // A cell on the rows from `first` up to `end`.
-#[tactic(auto, unfolding(picture::specs::Tiles::shown_by))]
 fn paint_rows(
     tile: &[u8; 32],
     graphic: &[u8; 2048],
@@ -85,7 +83,6 @@ fn paint_rows(
 }
 
 // The cell of a text word: looked up once, and only where its line shows.
-#[tactic(auto, unfolding(controller::specs::Named::in_cell, picture::specs::Picture::byte_at))]
 fn paint_word(
     text: &[u8; 128],
     glyph: &[u8; 128],
@@ -113,7 +110,6 @@ fn paint_word(
 }
 
 // A cell, where there is one.
-#[tactic(auto, unfolding(picture::specs::Picture::byte_at))]
 pub fn paint_cell(
     text: &[u8; 128],
     glyph: &[u8; 128],

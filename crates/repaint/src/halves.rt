@@ -29,7 +29,6 @@ fn shows_image(text: &[u8; 128], word: u32, number: u8) -> bool
 }
 
 // One cell of a row that shows the image's row, where its word shows the image.
-#[tactic(auto, unfolding(controller::specs::Named::shows_glyph, picture::specs::Picture::byte_over))]
 fn paint_if_image(
     text: &[u8; 128],
     graphic: &[u8; 2048],
@@ -54,7 +53,6 @@ fn paint_if_image(
 }
 
 // One row of the glass that shows the image's row.
-#[tactic(auto, unfolding(controller::specs::Named::shows_glyph, picture::specs::Picture::byte_over))]
 fn paint_image_row(
     text: &[u8; 128],
     graphic: &[u8; 2048],
@@ -77,7 +75,6 @@ fn paint_image_row(
 
 // A half of a glyph word: each byte showing that half of that image row. It shows on two rows of the glass, sixteen apart, and is the
 // same byte before what lies over it.
-#[tactic(auto, unfolding(controller::specs::Named::shows_glyph, picture::specs::Picture::byte_over))]
 pub fn paint_glyph_half(
     text: &[u8; 128],
     glyph: &[u8; 128],
@@ -102,7 +99,6 @@ pub fn paint_glyph_half(
 }
 
 // The byte of graphic row y at a column, if visible.
-#[tactic(auto, unfolding(picture::specs::Picture::byte_at))]
 pub fn paint_graphic_byte(
     text: &[u8; 128],
     glyph: &[u8; 128],
