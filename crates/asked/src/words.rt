@@ -1,7 +1,7 @@
 // What the command line asks for.
 use crate::saying::{usage, wrong};
-use check::same;
-use libc::STDERR_FILENO;
+use host::word_count;
+use std::rt::Env;
 
 // Files, each by the number of the argument that names it; 0 where none does, since that is the program's own name.
 #[derive(Clone, Copy)]
@@ -65,6 +65,11 @@ fn number_in(text: &[u8]) -> Parsed {
     Parsed::Number(n)
 }
 
+// Whether a word is this one.
+fn same(word: &[u8], text: &[u8]) -> bool {
+    word == text
+}
+
 impl Asked {
     fn nothing() -> Asked {
         Asked {
@@ -101,15 +106,15 @@ impl Asked {
     }
 
     // With one word refused: said about it what is wrong, and what there is.
-    fn refusing(mut self, word: &[u8], what: &[u8]) -> Asked {
-        wrong(word, what);
-        usage(STDERR_FILENO);
+    fn refusing(mut self, rt: &HostRuntime, word: &[u8], what: &[u8]) -> Asked {
+        wrong(rt, word, what);
+        usage(&rt.stderr());
         self.refused = true;
         self
     }
 
     // A word that stands for itself: an option, or the capture's name.
-    fn word(mut self, at: usize, word: &[u8]) -> Asked {
+    fn word(mut self, rt: &HostRuntime, at: usize, word: &[u8]) -> Asked {
         if same(word, b"--half") {
             return self.waiting(Waits::Half);
         }
@@ -142,16 +147,16 @@ impl Asked {
             return self;
         }
         if word.len() > 0 && word[0] == b'-' {
-            return self.refusing(word, b"there is no such option");
+            return self.refusing(rt, word, b"there is no such option");
         }
         if self.files.capture != 0 {
-            return self.refusing(word, b"a second capture; there is room for one");
+            return self.refusing(rt, word, b"a second capture; there is room for one");
         }
         self.files.capture = at;
         self
     }
 
-    fn phased(mut self, word: &[u8]) -> Asked {
+    fn phased(mut self, rt: &HostRuntime, word: &[u8]) -> Asked {
         if same(word, b"0") {
             self.phase = false;
             return self;
@@ -160,23 +165,23 @@ impl Asked {
             self.phase = true;
             return self;
         }
-        self.refusing(word, b"the phase is 0 or 1")
+        self.refusing(rt, word, b"the phase is 0 or 1")
     }
 
-    fn limited(mut self, word: &[u8]) -> Asked {
+    fn limited(mut self, rt: &HostRuntime, word: &[u8]) -> Asked {
         let Parsed::Number(n) = number_in(word) else {
-            return self.refusing(word, b"no number of records");
+            return self.refusing(rt, word, b"no number of records");
         };
         self.records = n;
         self
     }
 
     // The value of the option before it.
-    fn value(self, at: usize, word: &[u8]) -> Asked {
+    fn value(self, rt: &HostRuntime, at: usize, word: &[u8]) -> Asked {
         let waits = self.waits;
         let mut next = self.waiting(Waits::Nothing);
         match waits {
-            Waits::Nothing => next.word(at, word),
+            Waits::Nothing => next.word(rt, at, word),
             Waits::Half => {
                 next.files.half = at;
                 next
@@ -189,45 +194,44 @@ impl Asked {
                 next.files.pbm = at;
                 next
             }
-            Waits::Phase => next.phased(word),
-            Waits::Records => next.limited(word),
+            Waits::Phase => next.phased(rt, word),
+            Waits::Records => next.limited(rt, word),
         }
     }
 
     // The next word of the command line; once something was wrong, no other is looked at.
-    fn next(self, at: usize) -> Asked {
+    fn next(self, rt: &HostRuntime, at: usize) -> Asked {
         if self.refused {
             return self;
         }
-        let mut word = io::buffer();
-        let n = os::arg(at, &mut word);
-        if os::errno() != 0 {
-            return self.refusing(&word[..n], b"an argument of more than 4,096 bytes");
+        let mut word = [0u8; 4096];
+        match rt.arg(at, &mut word) {
+            Ok(n) => self.value(rt, at, &word[..n]),
+            Err(_) => self.refusing(rt, b"", b"an argument of more than 4,096 bytes"),
         }
-        self.value(at, &word[..n])
     }
 
     // After the last word no option waits for its value.
-    fn ended(self) -> Asked {
+    fn ended(self, rt: &HostRuntime) -> Asked {
         if self.refused {
             return self;
         }
         let waits = self.waits;
         match waits {
             Waits::Nothing => self,
-            Waits::Half => self.refusing(b"--half", b"the font's file is missing"),
-            Waits::Full => self.refusing(b"--full", b"the font's file is missing"),
-            Waits::Pbm => self.refusing(b"--pbm", b"the picture's file is missing"),
-            Waits::Phase => self.refusing(b"--phase", b"0 or 1 is missing"),
-            Waits::Records => self.refusing(b"--records", b"the number is missing"),
+            Waits::Half => self.refusing(rt, b"--half", b"the font's file is missing"),
+            Waits::Full => self.refusing(rt, b"--full", b"the font's file is missing"),
+            Waits::Pbm => self.refusing(rt, b"--pbm", b"the picture's file is missing"),
+            Waits::Phase => self.refusing(rt, b"--phase", b"0 or 1 is missing"),
+            Waits::Records => self.refusing(rt, b"--records", b"the number is missing"),
         }
     }
 
-    pub fn from_arguments() -> Asked {
+    pub fn from_arguments(rt: &HostRuntime) -> Asked {
         let mut asked = Asked::nothing();
-        for at in 1..os::arg_count() {
-            asked = asked.next(at);
+        for at in 1..word_count(rt) {
+            asked = asked.next(rt, at);
         }
-        asked.ended()
+        asked.ended(rt)
     }
 }

@@ -1,5 +1,5 @@
-// Functions for C or Rust to link: numbers and byte slices alone cross the border. A state crosses it as 2,341 bytes, and its controls
-// alone as 27 of them. Nothing is asked of a caller. Two panels on one wire are in `pair.rt`.
+// Functions for C or Rust to link, which crate `boundary_c` exports as they stand here: numbers and byte slices alone cross the border. A
+// state crosses it as 2,341 bytes, and its controls alone as 27 of them. Nothing is asked of a caller. Two panels on one wire are in `pair.rt`.
 #![tactic(auto)]
 
 mod pair;
@@ -15,15 +15,15 @@ ghost use Rattle.boundary.specs.Report.{report, fresh_replay};
 
 use controller::controls::numbering;
 use events::Made;
+pub use pair::zifqarell_pair_bit;
 use panel::Panel;
 use picture::refusals::refusal;
 use spelling::{last_bytes, spell_state};
 use unpacking::unpack;
 
 // Draws the picture of a state into the frame, and answers 0 or the refusal's number.
-#[unsafe(no_mangle)]
 #[tactic(auto, unfolding(picture::specs::Refusals::drawn, state_bytes::specs::Packed::unpacked))]
-pub extern "C" fn zifqarell_draw(
+pub fn zifqarell_draw(
     text: &[u8; 128],
     glyph: &[u8; 128],
     graphic: &[u8; 2048],
@@ -40,9 +40,8 @@ pub extern "C" fn zifqarell_draw(
 }
 
 // Puts the three bytes that carry a write over the serial link into the buffer, and answers 0 or the refusal's number.
-#[unsafe(no_mangle)]
 #[tactic(auto, unfolding(sender::specs::Sender::sent))]
-pub extern "C" fn zifqarell_send(register: bool, byte: u8, buffer: &mut [u8]) -> u8
+pub fn zifqarell_send(register: bool, byte: u8, buffer: &mut [u8]) -> u8
     ensures { leaving result buffer.new ≡ sent register byte buffer.old }
 {
     sender::send(register, byte, buffer)
@@ -51,9 +50,8 @@ pub extern "C" fn zifqarell_send(register: bool, byte: u8, buffer: &mut [u8]) ->
 // Replays a capture on a fresh panel, with or without time, by the old numbering or the new (`by160`), and answers the number with which
 // that stopped, 0 at the end of the capture. Leaves the state in which the panel then is, and the place with what the last accepted
 // record answered. Refused with 1, 2 or 3 it leaves all that it was lent.
-#[unsafe(no_mangle)]
 #[tactic(auto, unfolding(crate::specs::Report::fresh_replay))]
-pub extern "C" fn zifqarell_replay(
+pub fn zifqarell_replay(
     parallel: bool,
     time: bool,
     by160: bool,

@@ -8,10 +8,13 @@ ghost use Rattle.calls.specs.State.{Valid};
 ghost use Rattle.panel.specs.Handed.{state_of};
 
 use events::{Made, Numbering};
+use host::fail;
 use lent_pair::Clock;
-use libc::{STDIN_FILENO, STDOUT_FILENO};
 use pair::Pair;
 use panel::Panel;
+use std::io;
+use std::io::Read;
+use std::process::ExitCode;
 
 // The pair, how many clocks it has had, whether the wire may go on, and whether all could be read.
 #[derive(Clone, Copy)]
@@ -91,6 +94,7 @@ fn hear(
 
 // One read of standard input, heard.
 fn part(
+    rt: &HostRuntime,
     before: Heard,
     left_frame: &mut [u8; 1024],
     right_frame: &mut [u8; 1024],
@@ -99,27 +103,37 @@ fn part(
     requires { Valid (state_of before.pair.left) × Valid (state_of before.pair.right) }
     ensures { Valid (state_of result.pair.left) × Valid (state_of result.pair.right) }
 {
-    let mut input = io::buffer();
-    let got = libc::read(STDIN_FILENO, &mut input);
-    let n = io::count(got, &input);
-    if got < 0 {
-        os::fail(b"cabinet: standard input");
-    }
+    let mut input = [0u8; 4096];
+    let mut well = true;
+    let n = match rt.stdin().read(&mut input) {
+        Ok(n) => n,
+        Err(error) => {
+            fail(&rt.stderr(), b"cabinet: standard input", error);
+            well = false;
+            0
+        }
+    };
     let pair = hear(before.pair, &input[..n], left_frame, right_frame, half);
     Heard {
         pair,
-        clocks: std::num::wrapping_add_u64(before.clocks, n as u64),
+        clocks: before.clocks.wrapping_add(n as u64),
         more: n > 0,
-        well: got >= 0,
+        well,
     }
 }
 
-fn show(name: &[u8], frame: &[u8; 1024]) -> bool {
+fn show(rt: &HostRuntime, name: &[u8], frame: &[u8; 1024]) -> io::Result<()> {
     let text = frame_view::braille(frame);
-    io::write_all(STDOUT_FILENO, name) && io::write_all(STDOUT_FILENO, &text)
+    rt.write_all(name)?;
+    rt.write_all(&text)
 }
 
-fn hear_all(left_frame: &mut [u8; 1024], right_frame: &mut [u8; 1024], half: &[u8]) -> Wire {
+fn hear_all(
+    rt: &HostRuntime,
+    left_frame: &mut [u8; 1024],
+    right_frame: &mut [u8; 1024],
+    half: &[u8],
+) -> Wire {
     let mut heard = Heard {
         pair: Pair {
             left: fresh(),
@@ -132,7 +146,7 @@ fn hear_all(left_frame: &mut [u8; 1024], right_frame: &mut [u8; 1024], half: &[u
     // As many reads as there may be: no wire is so long.
     let mut reads = u64::MAX;
     while reads > 0 {
-        heard = part(heard, left_frame, right_frame, half);
+        heard = part(rt, heard, left_frame, right_frame, half);
         if !heard.more {
             reads = 0;
         } else {
@@ -145,21 +159,35 @@ fn hear_all(left_frame: &mut [u8; 1024], right_frame: &mut [u8; 1024], half: &[u
     }
 }
 
-fn count(clocks: u64) -> bool {
-    io::print_decimal(STDOUT_FILENO, clocks) && io::write_all(STDOUT_FILENO, b" clocks\n")
+// Both glasses, and how many clocks there were.
+fn show_both(
+    rt: &HostRuntime,
+    left_frame: &[u8; 1024],
+    right_frame: &[u8; 1024],
+    clocks: u64,
+) -> io::Result<()> {
+    show(rt, b"left\n", left_frame)?;
+    show(rt, b"right\n", right_frame)?;
+    println!(rt; "{clocks} clocks")
 }
 
-fn main() {
+// How the program ends: 1 where something has failed, which has been said.
+fn main(rt: HostRuntime) -> ExitCode {
     let half = half_font::built_in();
     let mut left_frame = [0u8; 1024];
     let mut right_frame = [0u8; 1024];
-    let wire = hear_all(&mut left_frame, &mut right_frame, &half[..2048]);
+    let wire = hear_all(&rt, &mut left_frame, &mut right_frame, &half[..2048]);
     // After a failed read, what was heard is shown all the same.
     if wire.clocks == 0 && !wire.well {
-        return;
+        return ExitCode::FAILURE;
     }
-    if show(b"left\n", &left_frame) && show(b"right\n", &right_frame) && count(wire.clocks) {
-        return;
+    if let Err(error) = show_both(&rt, &left_frame, &right_frame, wire.clocks) {
+        fail(&rt.stderr(), b"cabinet: standard output", error);
+        return ExitCode::FAILURE;
     }
-    os::fail(b"cabinet: standard output");
+    if wire.well {
+        ExitCode::SUCCESS
+    } else {
+        ExitCode::FAILURE
+    }
 }

@@ -6,17 +6,17 @@ use mathlib.Core.List.{List, [], ◌∷◌}
 use mathlib.Core.Logic.{inl, inr}
 use mathlib.Core.Path.{◌≡◌, refl, ap, ◌∙◌}
 use native.Mathlib.Omega.{arith}
-use borrow.Author.Tests.{ne_eqb, eqb-false, le-leb, leb-true, leb-false}
+use borrow.Author.Tests.{ne_eqb, le-leb, leb-true, leb-false}
 use lib.Dec.{eqb, leb}
 use lib.ListN.{length, get_or}
 use types.Run.{OneOf}
 use denote.Enum.Declared.{tag_of}
 use Rattle.base.specs.Choice.{if◌then◌else◌}
-use Rattle.base.proofs.Choice.{either, either-told, by_test}
+use Rattle.base.proofs.Choice.{either, by_test}
 use Rattle.capture.specs.declared.Answer.{Answer}
 use Rattle.capture.specs.declared.Answer.TheVariants.{Record, Refused, End}
 use Rattle.capture.specs.Kinds.{last_kind, kind_of, allowed}
-use Rattle.capture.specs.Record.{marked, kind_byte, value_byte, read_first, values, passed, taken_with}
+use Rattle.capture.specs.Record.{marked, kind_byte, value_byte, read_first, passed, taken_with}
 use Rattle.capture.proofs.Answers.{judged, four_left, four_are_no_end, Numbered, read-numbered}
 use Rattle.capture.specs.contracts.Answer.{the_type}
 

@@ -20,13 +20,13 @@ use Rattle.serial.specs.declared.Receiver.TheVariants.{Outside}
 use Rattle.serial.specs.declared.Received.{Received}
 use Rattle.serial.specs.declared.Received.TheVariants.{Nothing, Byte}
 use Rattle.links.specs.declared.Carried.{Carried}
-use Rattle.links.specs.Halves.{writing, acts, paired}
+use Rattle.links.specs.Halves.{writing, acts}
 use Rattle.connector.specs.Listened.{Listened, listened}
 use Rattle.sender.specs.Sender.{three_bytes}
 use Rattle.links.specs.Taken.{by_width, taken_by, deed_of}
-use Rattle.connector.specs.Items.{WholeWrite, Item, write, beside_wires, Way, whole_bytes, halves, serial, above, bits_of, write_events, write_deeds, onward, wires, wire_deeds, sync_after, Alike, none, writes, events}
+use Rattle.connector.specs.Items.{WholeWrite, Item, write, beside_wires, Way, whole_bytes, halves, serial, above, bits_of, write_events, write_deeds, onward, wires, wire_deeds, sync_after, none, writes, events}
 use Rattle.connector.specs.Connector.{Performed, Controller, Connected, CameAll, Comes, elsewhere, comes, preceded, rests, carried_at, event_at, runs, act, does, HasDl, KeepsDl, Idles}
-use Rattle.connector.specs.Statements.{ItemsAct, Respected, ListsAgree}
+use Rattle.connector.specs.Statements.{ItemsAct, ListsAgree}
 use Rattle.connector.proofs.HalvesPaired.{second-half-acts}
 use Rattle.connector.proofs.WriteHeard.{last-bit-acts}
 
@@ -151,7 +151,7 @@ module _ {S : Type 0} (on : Controller S) where
     unfolding does
     lists_agree kept s t [] [] e none = e
     lists_agree kept s t _ _ e (writes {w = w} {v = v} {ws = ws} {vs = vs} p q a) =
-        lists_agree kept _ _ ws vs
+        lists_agree kept (act on s w.register w.byte) (act on t v.register v.byte) ws vs
         (subst (λ (r : Bool). act on s w.register w.byte ≈ act on t r v.byte) p
         (kept.writes s t w.register w.byte v.byte w.small v.small e q)) a
-    lists_agree kept s t _ _ e (events {x = x} {ws = ws} {vs = vs} a) = lists_agree kept _ _ ws vs (kept.events s t x e) a
+    lists_agree kept s t _ _ e (events {x = x} {ws = ws} {vs = vs} a) = lists_agree kept (on.perform s x.deed).state (on.perform t x.deed).state ws vs (kept.events s t x e) a

@@ -1,13 +1,13 @@
 -- Each glass: the byte of every row and column has its place, and every place its byte; the two bytes of a cell's row lie side by side.
 use Prim.Native.Nat.{ℕ, ◌+◌, ◌*◌, ◌/◌, ◌%◌, ◌<◌, ◌≤◌}
-use mathlib.Core.Path.{◌≡◌, refl, sym, ap, ap₂, ◌∙◌}
+use mathlib.Core.Path.{◌≡◌, sym, ap₂, ◌∙◌}
 use native.Mathlib.Omega.{arith}
 use Rattle.base.specs.Layout.{Layout}
 use Rattle.base.proofs.Layouts.{Placed}
 use Rattle.glass.specs.declared.Glass.{Glass}
 use Rattle.glass.specs.declared.Glass.TheVariants.{Wide, Folded}
 use Rattle.glass.specs.Frames.{wide, folded, layout_of, OneToOne, Onto}
-use Rattle.glass.specs.Places.{stride_of, offset_of, place_on}
+use Rattle.glass.specs.Places.{stride_of, place_on}
 
 wide-placed : Placed wide 32 32 (place_on Wide)
 wide-placed =

@@ -1,13 +1,6 @@
 -- The box lacks its code, and what is not the box lacks nothing.
-use Prim.Native.Nat.{ℕ}
-use mathlib.Core.Path.{◌≡◌, refl}
-use mathlib.Core.List.{[], ◌∷◌}
-use mathlib.Core.Logic.{inl, inr}
-use native.Mathlib.Omega.{arith}
-use types.Run.{OneOf}
-use denote.Enum.Declared.{tag_of}
+use Rattle.std.proofs.Common.{◌≡◌, ℕ, refl}
 use Rattle.glyph.specs.declared.Content.{Content}
-use Rattle.glyph.specs.contracts.Content.{the_type}
 use Rattle.glyph.specs.declared.Content.TheVariants.{Image, Full, Halves, Missing, Blank}
 use Rattle.missing.specs.Missing.{code_if_missing}
 use Rattle.missing.specs.declared.Lacks.TheVariants.{Nothing, Code}
@@ -16,13 +9,10 @@ pub the_box : (lead trail : ℕ) → Code lead trail ≡ code_if_missing Missing
 unfolding code_if_missing
 the_box lead trail = refl
 
-pub none_but_the_box : (c : Content) (lead trail : ℕ) → OneOf (0 ∷ 1 ∷ 2 ∷ 4 ∷ []) (tag_of the_type c) → Nothing ≡ code_if_missing c lead trail
+pub none_but_the_box : (c : Content) (lead trail : ℕ) → (c ≡ Missing → ⊥) → Nothing ≡ code_if_missing c lead trail
 unfolding code_if_missing
 none_but_the_box (Image i) lead trail t = refl
 none_but_the_box (Full i) lead trail t = refl
 none_but_the_box (Halves h l) lead trail t = refl
-none_but_the_box Missing lead trail (inl t) = absurd (omega arith)
-none_but_the_box Missing lead trail (inr (inl t)) = absurd (omega arith)
-none_but_the_box Missing lead trail (inr (inr (inl t))) = absurd (omega arith)
-none_but_the_box Missing lead trail (inr (inr (inr t))) = absurd (omega arith)
+none_but_the_box Missing lead trail t = absurd (t refl)
 none_but_the_box Blank lead trail t = refl

@@ -31,7 +31,6 @@ pub fn band_row(view: View, band: u32) -> u32
 }
 
 // What a cell of a row of the glass lacks, with a full font of `length` bytes.
-#[tactic(auto, unfolding(crate::specs::Missing::missing_at))]
 pub fn missing_at(text: &[u8; 128], view: View, row: u32, cell: u32, length: usize) -> Lacks
     requires { (row < 32) × (cell < 16) }
     ensures { result ≡ missing_at view length text.now row cell }

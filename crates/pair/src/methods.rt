@@ -27,7 +27,6 @@ fn panel(text: [u8; 128], glyph: [u8; 128], graphic: [u8; 2048], kept: Kept) -> 
 
 impl Pair {
     // A clock of the wire comes to both panels. Their memories are taken into locals once and lent, and the panels are put together once.
-    #[tactic(auto, unfolding(lent_pair::specs::Pair::pair_called))]
     pub fn bit(
         self,
         clock: Clock,

@@ -1,8 +1,1 @@
 pub mod Contents
-mod Held
-mod Called
-mod Stated
-mod Parts
-mod Method
-mod Asked
-mod Answered

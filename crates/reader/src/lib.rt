@@ -49,8 +49,8 @@ fn passed(answer: Answer) -> usize
     }
 }
 
-// A reader holds the capture that it was lent, and a position in it. Its step only takes it apart for a function on
-// the slice and the number, since it is proved by hand.
+// A reader holds the capture that it was lent, and a position in it. Its step takes it apart for a function on the slice
+// and the number.
 #[derive(Clone, Copy)]
 pub struct Reader<'a> {
     capture: &'a [u8],
@@ -73,8 +73,7 @@ impl<'a> Reader<'a> {
     }
 }
 
-// One step of a reader over a capture, at a position of it. Whoever calls this has a plain slice and a number, and needs no
-// proof by hand.
+// One step of a reader over a capture, at a position of it, for whoever has a plain slice and a number.
 pub fn record_at(capture: &[u8], at: usize) -> Step
     ensures { result ≡ step_at capture.now at }
 {

@@ -102,7 +102,8 @@ module _ (e : Seen) where
   in_turn_sum : (reply : ℕ) (s : State) (f : List ℕ) (events : List Event) → (called_on e reply s f events).count ≡ sum (counts_in_turn e s f events)
   unfolding called_on counts_in_turn sum
   in_turn_sum reply s f [] = refl
-  in_turn_sum reply s f (event ∷ events) = ap (λ (i : ℕ). (called e s f event).count + i) (in_turn_sum _ _ _ events)
+  in_turn_sum reply s f (event ∷ events) =
+      let k = called e s f event in ap (λ (i : ℕ). k.count + i) (in_turn_sum k.reply k.state k.frame events)
 
   -- on the serial link a bit is heard
   abbrev heard_call : Memories → Control → List ℕ → Heard → Called

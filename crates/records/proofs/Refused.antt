@@ -42,14 +42,16 @@ called-on-length :
     (e : Seen) (reply : ℕ) (s : State) (frame : List ℕ) (events : List Event) → length (called_on e reply s frame events).frame ≡ length frame
 unfolding called_on
 called-on-length e reply s frame [] = refl
-called-on-length e reply s frame (event ∷ events) = called-on-length e _ _ _ events ∙ called-length e s frame event
+called-on-length e reply s frame (event ∷ events) =
+    let k = called e s frame event in called-on-length e k.reply k.state k.frame events ∙ called-length e s frame event
 
 called_on_timed :
     (e : Seen) (reply : ℕ) (s : State) (frame : List ℕ) (events : List Event)
     → (called_on e reply s frame events).state.control.time.timed ≡ s.control.time.timed
 unfolding called_on
 called_on_timed e reply s frame [] = refl
-called_on_timed e reply s frame (event ∷ events) = called_on_timed e _ _ _ events ∙ called_timed e s frame event
+called_on_timed e reply s frame (event ∷ events) =
+    let k = called e s frame event in called_on_timed e k.reply k.state k.frame events ∙ called_timed e s frame event
 
 module _ (e : Seen) (s : State) (frame : List ℕ) where
   in_turn_unmoved : (events : List Event) → Unmoved s frame (called_in_turn e s frame events)

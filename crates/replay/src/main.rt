@@ -9,9 +9,12 @@ ghost use Rattle.panel.specs.Handed.{state_of};
 ghost use Rattle.printed.specs.Text.{Counts};
 
 use events::{Made, Numbering};
-use libc::{STDERR_FILENO, STDIN_FILENO, STDOUT_FILENO};
+use host::{fail, word_at, word_count};
 use panel::Panel;
 use playback::Stop;
+use std::io;
+use std::io::Read;
+use std::process::ExitCode;
 
 // Whether the panel is to have time, and whether there are other arguments, which has been said.
 #[derive(Clone, Copy)]
@@ -20,11 +23,11 @@ struct Asked {
     refused: bool,
 }
 
-// How many bytes came, and whether a read failed.
+// How many bytes came, and what a read failed with, where one did.
 #[derive(Clone, Copy)]
 struct Filled {
     count: usize,
-    failed: bool,
+    failure: Option<io::Error>,
 }
 
 // How far the replay came with a part, how many bytes the part had, and whether reading it or writing its lines failed.
@@ -36,75 +39,92 @@ struct Came {
     unwritten: bool,
 }
 
+// A text for standard error. Where it cannot be written, nothing can be said of that.
+fn say(rt: &HostRuntime, text: &[u8]) {
+    let _ = rt.stderr().write_all(text);
+}
+
 // The one argument that there is.
-fn from_arguments() -> Asked {
-    let count = os::arg_count();
-    let mut word = io::buffer();
-    let n = os::arg(1, &mut word);
-    let time = count == 2 && check::same(&word[..n], b"--time");
+fn from_arguments(rt: &HostRuntime) -> Asked {
+    let count = word_count(rt);
+    let mut room = [0u8; 4096];
+    let word = word_at(rt, 1, &mut room);
+    let time = count == 2 && word == b"--time".as_slice();
     let refused = count > 1 && !time;
     if refused {
-        io::write_all(STDERR_FILENO, b"replay: the only argument is --time\n");
+        say(rt, b"replay: the only argument is --time\n");
     }
     Asked { time, refused }
 }
 
 // One read into the buffer, from a place on.
-fn read_some(buffer: &mut [u8], from: usize) -> Filled
+fn read_some(rt: &HostRuntime, buffer: &mut [u8], from: usize) -> Filled
     requires { from ≤ length buffer.old }
     ensures { from + result.count ≤ length buffer.new }
 {
-    let part = &mut buffer[from..];
-    let got = libc::read(STDIN_FILENO, part);
-    let count = io::count(got, part);
-    Filled {
-        count,
-        failed: got < 0,
+    match rt.stdin().read(&mut buffer[from..]) {
+        Ok(count) => Filled {
+            count,
+            failure: None,
+        },
+        Err(error) => Filled {
+            count: 0,
+            failure: Some(error),
+        },
     }
 }
 
 // Reads until the buffer is full, the input ends or a read fails. A record that a failed read cut short is left out: the
 // capture does not end there.
-fn fill(buffer: &mut [u8]) -> Filled
+fn fill(rt: &HostRuntime, buffer: &mut [u8]) -> Filled
     ensures { Counts result.count buffer.new }
 {
     let mut done: usize = 0;
     while done < buffer.len() {
-        let some = read_some(buffer, done);
-        if some.failed {
-            os::fail(b"replay: standard input");
+        let some = read_some(rt, buffer, done);
+        if let Some(error) = some.failure {
+            fail(&rt.stderr(), b"replay: standard input", error);
             return Filled {
                 count: done - done % 4,
-                failed: true,
+                failure: some.failure,
             };
         }
         let n = some.count;
         if n == 0 {
             return Filled {
                 count: done,
-                failed: false,
+                failure: None,
             };
         }
         done += n;
     }
     Filled {
         count: done,
-        failed: false,
+        failure: None,
     }
 }
 
 // Writes a text to standard output, and answers whether that was done.
-fn print(text: &[u8]) -> bool {
-    let written = io::write_all(STDOUT_FILENO, text);
-    if !written {
-        os::fail(b"replay: standard output");
+fn print(rt: &HostRuntime, text: &[u8]) -> bool {
+    match rt.stdout().write_all(text) {
+        Ok(()) => true,
+        Err(error) => {
+            fail(&rt.stderr(), b"replay: standard output", error);
+            false
+        }
     }
-    written
+}
+
+// Room for the lines of a part.
+fn large_buffer() -> [u8; 65536]
+    ensures { 65536 ≡ length result }
+{
+    [0; 65536]
 }
 
 // One part of the capture: 4,096 bytes, so that no record lies across two parts, or what is left. Its lines, of at most 29
 // bytes each, fit into 65,536 bytes.
-fn part(panel: Panel, place: usize, frame: &mut [u8; 1024]) -> Came
+fn part(rt: &HostRuntime, panel: Panel, place: usize, frame: &mut [u8; 1024]) -> Came
     requires { Valid (state_of panel) }
     ensures valid { Valid (state_of result.stop.panel) }
     ensures through { result.stop.number ≡ 0 → result.stop.full ≡ false → result.stop.place ≡ place + result.bytes / 4 }
@@ -112,10 +132,10 @@ fn part(panel: Panel, place: usize, frame: &mut [u8; 1024]) -> Came
     let half = [0u8; 2048];
     let full = [0u8; 0];
     let mut input = [0u8; 4096];
-    let filled = fill(&mut input);
+    let filled = fill(rt, &mut input);
     let n = filled.count;
-    let unread = filled.failed;
-    let mut text = io::large_buffer();
+    let unread = filled.failure.is_some();
+    let mut text = large_buffer();
     let stop = playback::transcribe(
         panel,
         place,
@@ -127,7 +147,7 @@ fn part(panel: Panel, place: usize, frame: &mut [u8; 1024]) -> Came
         &mut text,
     );
     let length = stop.filled;
-    let written = print(&text[..length]);
+    let written = print(rt, &text[..length]);
     Came {
         stop,
         bytes: n,
@@ -136,21 +156,29 @@ fn part(panel: Panel, place: usize, frame: &mut [u8; 1024]) -> Came
     }
 }
 
-// The last line. A program has no exit status: that a record was refused is said on standard error too, for `./run`.
-fn print_last(place: usize, number: u8) {
+// The last line; answers how the program ends, 3 where a record was refused, 1 where something has failed. That a record was refused is
+// said on standard error too, for `./run`.
+fn print_last(rt: &HostRuntime, place: usize, number: u8, unread: bool) -> ExitCode {
     let mut text = [0u8; 48];
     let n = printed::put_last(&mut text, place, number);
-    print(&text[..n]);
+    let written = print(rt, &text[..n]);
     if number != 0 {
-        io::write_all(STDERR_FILENO, b"replay: stopped\n");
+        say(rt, b"replay: stopped\n");
     }
+    if unread || !written {
+        return ExitCode::FAILURE;
+    }
+    if number != 0 {
+        return ExitCode::from(3);
+    }
+    ExitCode::SUCCESS
 }
 
 // Part after part. A refusal stops the replay also where the read after it failed.
-fn main() {
-    let asked = from_arguments();
+fn main(rt: HostRuntime) -> ExitCode {
+    let asked = from_arguments(&rt);
     if asked.refused {
-        return;
+        return ExitCode::FAILURE;
     }
     let mut frame = [0u8; 1024];
     let mut panel = Panel::fresh(Made {
@@ -160,25 +188,23 @@ fn main() {
     });
     let mut place: usize = 0;
     loop {
-        let came = part(panel, place, &mut frame);
+        let came = part(&rt, panel, place, &mut frame);
         let stop = came.stop;
         if came.unwritten {
-            return;
+            return ExitCode::FAILURE;
         }
         if stop.number != 0 {
-            print_last(stop.place, stop.number);
-            return;
+            return print_last(&rt, stop.place, stop.number, came.unread);
         }
         if came.unread {
-            return;
+            return ExitCode::FAILURE;
         }
         if stop.full {
-            io::write_all(STDERR_FILENO, b"replay: too many records\n");
-            return;
+            say(&rt, b"replay: too many records\n");
+            return ExitCode::FAILURE;
         }
         if came.bytes < 4096 {
-            print_last(stop.place, 0);
-            return;
+            return print_last(&rt, stop.place, 0, false);
         }
         panel = stop.panel;
         place = stop.place;

@@ -5,14 +5,16 @@ ghost use Rattle.panel.specs.Handed.{state_of};
 use asked::files::fill;
 use events::{Made, Numbering};
 use panel::Panel;
+use std::io;
+use std::io::Read;
 
-// Where a replay ended: the panel then, how many records it accepted, the refusal number, and whether all could be read.
+// Where a replay ended: the panel then, how many records it accepted, the refusal number, and what a read failed with, where one did.
 #[derive(Clone, Copy)]
 pub(crate) struct Ended {
     pub panel: Panel,
     pub records: u64,
     pub number: u8,
-    pub well: bool,
+    pub failure: Option<io::Error>,
     // Whether the capture may go on behind it.
     pub more: bool,
 }
@@ -34,9 +36,9 @@ fn wanted(records: u64) -> usize {
 }
 
 // Goes on with the next part, of at most so many records.
-fn part(
+fn part<R: Read>(
     before: Ended,
-    fd: i32,
+    from: &mut R,
     most: u64,
     frame: &mut [u8; 1024],
     half: &[u8],
@@ -46,9 +48,9 @@ fn part(
     requires { Valid (state_of before.panel) }
     ensures { Valid (state_of result.panel) }
 {
-    let mut input = io::buffer();
-    let loaded = fill(fd, &mut input, wanted(most));
-    let n = loaded.count;
+    let mut input = [0u8; 4096];
+    let filled = fill(from, &mut input, wanted(most));
+    let n = filled.count;
     let panel = before.panel;
     let stop = playback::replay(panel, &input[..n], frame, half, full, phase);
     let number = stop.number;
@@ -57,14 +59,14 @@ fn part(
         panel: next,
         records: sum(before.records, stop.place as u64),
         number,
-        well: loaded.well,
+        failure: filled.failure,
         more: n == 4096 && number == 0,
     }
 }
 
 // Replays at most so many records on a fresh parallel panel, with or without time, as document 01's `replay` does.
-pub(crate) fn replayed(
-    fd: i32,
+pub(crate) fn replayed<R: Read>(
+    from: &mut R,
     most: u64,
     time: bool,
     frame: &mut [u8; 1024],
@@ -80,12 +82,12 @@ pub(crate) fn replayed(
         }),
         records: 0,
         number: 0,
-        well: true,
+        failure: None,
         more: true,
     };
     let mut left = most;
     while left > 0 {
-        ended = part(ended, fd, left, frame, half, full, phase);
+        ended = part(ended, from, left, frame, half, full, phase);
         if !ended.more {
             return ended;
         }

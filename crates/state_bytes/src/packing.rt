@@ -59,7 +59,6 @@ fn low_byte(number: u16) -> u8
 }
 
 // The controls as 27 bytes.
-#[tactic(auto, unfolding(crate::specs::Packed::packed))]
 pub fn pack(control: Control) -> [u8; 27]
     ensures { result ≡ packed control }
 {

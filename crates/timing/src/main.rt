@@ -11,9 +11,9 @@ ghost use Rattle.panel.specs.Handed.{state_of};
 
 use controller::Control;
 use events::{Made, Numbering, Transfer};
-use libc::STDOUT_FILENO;
 use links::Link;
 use panel::Panel;
+use std::rt::Env;
 
 const TIMES: u32 = 1000000;
 
@@ -193,9 +193,10 @@ fn draws() -> u32 {
     sum
 }
 
-fn main() {
+fn main(rt: HostRuntime) {
     let mut word = [0u8; 16];
-    os::arg(1, &mut word);
+    // A longer word leaves its beginning there.
+    let _ = rt.arg(1, &mut word);
     let first = word[0];
     let sum = match first {
         b'v' => by_value(),
@@ -206,6 +207,5 @@ fn main() {
         b'd' => draws(),
         _ => 0,
     };
-    io::print_decimal(STDOUT_FILENO, sum as u64);
-    io::write_all(STDOUT_FILENO, b"\n");
+    let _ = println!(rt; "{sum}");
 }

@@ -11,57 +11,57 @@ struct Ear {
     any: bool,
 }
 
-pub(crate) fn wires() {
-    print(b"instruction 30h from the sender:");
-    sent(false, 0x30);
-    print(b"data 2Dh from the sender:");
-    sent(true, 0x2D);
-    print(b"reading 11, fa 20 d0:");
-    wire(b"\xFA\x20\xD0");
-    print(b"reading 12, fa 20 d1:");
-    wire(b"\xFA\x20\xD1");
-    print(b"two bytes under one header, fa 20 d0 30 70:");
-    wire(b"\xFA\x20\xD0\x30\x70");
-    print(b"three writes, f8 80 00 fa 20 d0 fa 30 70:");
-    wire(b"\xF8\x80\x00\xFA\x20\xD0\xFA\x30\x70");
-    damaged_wires();
+pub(crate) fn wires(rt: &HostRuntime) {
+    print(rt, b"instruction 30h from the sender:");
+    sent(rt, false, 0x30);
+    print(rt, b"data 2Dh from the sender:");
+    sent(rt, true, 0x2D);
+    print(rt, b"reading 11, fa 20 d0:");
+    wire(rt, b"\xFA\x20\xD0");
+    print(rt, b"reading 12, fa 20 d1:");
+    wire(rt, b"\xFA\x20\xD1");
+    print(rt, b"two bytes under one header, fa 20 d0 30 70:");
+    wire(rt, b"\xFA\x20\xD0\x30\x70");
+    print(rt, b"three writes, f8 80 00 fa 20 d0 fa 30 70:");
+    wire(rt, b"\xF8\x80\x00\xFA\x20\xD0\xFA\x30\x70");
+    damaged_wires(rt);
 }
 
-fn damaged_wires() {
-    print(b"read data, 11111110, fe 20 d0:");
-    wire(b"\xFE\x20\xD0");
-    print(b"five ones only inside that header, fe 08 34 00:");
-    wire(b"\xFE\x08\x34\x00");
-    print(b"third header bit 1, f9 20 d0:");
-    wire(b"\xF9\x20\xD0");
-    print(b"the fifth one among the zeros, fa f8 20 d0:");
-    wire(b"\xFA\xF8\x20\xD0");
-    print(b"four ones and a fifth, 0f 82 0d 00:");
-    wire(b"\x0F\x82\x0D\x00");
-    print(b"chip select low before the fifth:");
-    cut(b"\x0F", b"\x82\x0D\x00");
+fn damaged_wires(rt: &HostRuntime) {
+    print(rt, b"read data, 11111110, fe 20 d0:");
+    wire(rt, b"\xFE\x20\xD0");
+    print(rt, b"five ones only inside that header, fe 08 34 00:");
+    wire(rt, b"\xFE\x08\x34\x00");
+    print(rt, b"third header bit 1, f9 20 d0:");
+    wire(rt, b"\xF9\x20\xD0");
+    print(rt, b"the fifth one among the zeros, fa f8 20 d0:");
+    wire(rt, b"\xFA\xF8\x20\xD0");
+    print(rt, b"four ones and a fifth, 0f 82 0d 00:");
+    wire(rt, b"\x0F\x82\x0D\x00");
+    print(rt, b"chip select low before the fifth:");
+    cut(rt, b"\x0F", b"\x82\x0D\x00");
 }
 
 // A write as the sender puts it into a buffer.
-fn sent(register: bool, byte: u8) {
+fn sent(rt: &HostRuntime, register: bool, byte: u8) {
     let mut buffer = [0u8; 3];
     sender::send(register, byte, &mut buffer);
-    wire(&buffer);
+    wire(rt, &buffer);
 }
 
-fn wire(bytes: &[u8]) {
-    end(heard(idle(), bytes));
+fn wire(rt: &HostRuntime, bytes: &[u8]) {
+    end(rt, heard(rt, idle(), bytes));
 }
 
 // Chip select goes low between the bytes before and after.
-fn cut(before: &[u8], after: &[u8]) {
-    let ear = heard(idle(), before);
+fn cut(rt: &HostRuntime, before: &[u8], after: &[u8]) {
+    let ear = heard(rt, idle(), before);
     let high = ear.receiver;
     let low = Ear {
         receiver: serial::select_low(high),
         any: ear.any,
     };
-    end(heard(low, after));
+    end(rt, heard(rt, low, after));
 }
 
 fn idle() -> Ear {
@@ -72,29 +72,29 @@ fn idle() -> Ear {
 }
 
 // Each byte goes over the wire with its highest bit first.
-fn heard(ear: Ear, bytes: &[u8]) -> Ear {
+fn heard(rt: &HostRuntime, ear: Ear, bytes: &[u8]) -> Ear {
     let mut next = ear;
     let mut i = 0;
     while i < bytes.len() {
-        next = byte_heard(next, bytes[i]);
+        next = byte_heard(rt, next, bytes[i]);
         i += 1;
     }
     next
 }
 
-fn byte_heard(ear: Ear, byte: u8) -> Ear {
+fn byte_heard(rt: &HostRuntime, ear: Ear, byte: u8) -> Ear {
     let mut next = ear;
     let mut rest = byte;
     let mut left: usize = 8;
     while left > 0 {
-        next = bit_heard(next, rest / 128 == 1);
+        next = bit_heard(rt, next, rest / 128 == 1);
         rest = rest % 128 * 2;
         left -= 1;
     }
     next
 }
 
-fn bit_heard(ear: Ear, bit: bool) -> Ear {
+fn bit_heard(rt: &HostRuntime, ear: Ear, bit: bool) -> Ear {
     let before = ear.receiver;
     let heard = serial::hear(before, bit);
     let receiver = heard.receiver;
@@ -105,7 +105,7 @@ fn bit_heard(ear: Ear, bit: bool) -> Ear {
             any: ear.any,
         },
         Received::Byte { register, byte } => {
-            told(register, byte);
+            told(rt, register, byte);
             Ear {
                 receiver,
                 any: true,
@@ -114,18 +114,18 @@ fn bit_heard(ear: Ear, bit: bool) -> Ear {
     }
 }
 
-fn told(register: bool, byte: u8) {
+fn told(rt: &HostRuntime, register: bool, byte: u8) {
     if register {
-        print(b" data");
+        print(rt, b" data");
     } else {
-        print(b" instruction");
+        print(rt, b" instruction");
     }
-    print_byte(b" ", byte);
+    print_byte(rt, b" ", byte);
 }
 
-fn end(ear: Ear) {
+fn end(rt: &HostRuntime, ear: Ear) {
     if !ear.any {
-        print(b" nothing");
+        print(rt, b" nothing");
     }
-    print(b"\n");
+    print(rt, b"\n");
 }

@@ -50,98 +50,101 @@ pub(crate) fn transferred(panel: Panel, given: Transfer) -> Outcome
 }
 
 // The refusal number, the reply and the count.
-pub(crate) fn print_answer(label: &[u8], number: u8, reply: u8, count: usize) {
-    print_count(label, number as usize);
-    print_byte(b" ", reply);
-    print_count(b" ", count);
+pub(crate) fn print_answer(rt: &HostRuntime, label: &[u8], number: u8, reply: u8, count: usize) {
+    print_count(rt, label, number as usize);
+    print_byte(rt, b" ", reply);
+    print_count(rt, b" ", count);
 }
 
 // A transfer; of every one its answer is printed, or of reads the reply.
-fn turn(panel: Panel, kind: u8, value: u8, answers: bool) -> Panel
+fn turn(rt: &HostRuntime, panel: Panel, kind: u8, value: u8, answers: bool) -> Panel
     requires { Valid (state_of panel) }
     ensures { Valid (state_of result) }
 {
     let outcome = transferred(panel, transfer_of(kind, value));
     if answers {
-        print_answer(b" | ", outcome.number, outcome.reply, outcome.count);
+        print_answer(rt, b" | ", outcome.number, outcome.reply, outcome.count);
     } else if kind >= STATUS {
-        print_byte(b" ", outcome.reply);
+        print_byte(rt, b" ", outcome.reply);
     }
     outcome.panel
 }
 
 // A script on a fresh panel of the parallel link.
-fn run(label: &[u8], script: &[u8], answers: bool) -> Panel
+fn run(rt: &HostRuntime, label: &[u8], script: &[u8], answers: bool) -> Panel
     ensures { Valid (state_of result) }
 {
-    print(label);
+    print(rt, label);
     let mut panel = fresh(true);
     let pairs = script.len() / 2;
     for i in 0..pairs {
         let at = 2 * i;
-        panel = turn(panel, script[at], script[at + 1], answers);
+        panel = turn(rt, panel, script[at], script[at + 1], answers);
     }
     panel
 }
 
 // The replies of a script's reads, then RE, G, text word 0, and the graphic word at row 3, column 15.
-fn reading(label: &[u8], script: &[u8]) {
-    let panel = run(label, script, false);
-    print_flag(b"; RE ", panel.control.function.re);
-    print_flag(b", G ", panel.control.function.g);
-    print_word(b", text ", panel.text[0], panel.text[1]);
-    print_word(b", graphic ", panel.graphic[126], panel.graphic[127]);
-    print(b"\n");
+fn reading(rt: &HostRuntime, label: &[u8], script: &[u8]) {
+    let panel = run(rt, label, script, false);
+    print_flag(rt, b"; RE ", panel.control.function.re);
+    print_flag(rt, b", G ", panel.control.function.g);
+    print_word(rt, b", text ", panel.text[0], panel.text[1]);
+    print_word(rt, b", graphic ", panel.graphic[126], panel.graphic[127]);
+    print(rt, b"\n");
 }
 
-pub(crate) fn print_state(panel: Panel) {
-    print_word(b", word 0 ", panel.text[0], panel.text[1]);
-    print_byte(b", counter ", panel.control.place.counter);
-    print(b"\n");
+pub(crate) fn print_state(rt: &HostRuntime, panel: Panel) {
+    print_word(rt, b", word 0 ", panel.text[0], panel.text[1]);
+    print_byte(rt, b", counter ", panel.control.place.counter);
+    print(rt, b"\n");
 }
 
 // Every answer of a script.
-pub(crate) fn counted(label: &[u8], script: &[u8]) {
-    print_state(run(label, script, true));
+pub(crate) fn counted(rt: &HostRuntime, label: &[u8], script: &[u8]) {
+    print_state(rt, run(rt, label, script, true));
 }
 
-pub(crate) fn readings() {
-    reading(b"1:", b"\x02\x00");
-    reading(b"2:", b"\x00\x85\x02\x00");
+pub(crate) fn readings(rt: &HostRuntime) {
+    reading(rt, b"1:", b"\x02\x00");
+    reading(rt, b"2:", b"\x00\x85\x02\x00");
     reading(
+        rt,
         b"4:",
         b"\x00\x80\x01\x2D\x01\x37\x00\x80\x03\x00\x03\x00\x03\x00",
     );
-    reading(b"6:", b"\x00\x04\x00\x80\x01\x2D\x01\x37\x02\x00");
-    reading(b"7, 36h:", b"\x00\x36");
-    reading(b"7, 36h again:", b"\x00\x36\x00\x36");
+    reading(rt, b"6:", b"\x00\x04\x00\x80\x01\x2D\x01\x37\x02\x00");
+    reading(rt, b"7, 36h:", b"\x00\x36");
+    reading(rt, b"7, 36h again:", b"\x00\x36\x00\x36");
     reading(
+        rt,
         b"8:",
         b"\x00\x34\x00\x36\x00\x83\x00\x8F\x01\xAA\x01\x55\x02\x00",
     );
     reading(
+        rt,
         b"80h, data 2Dh, 80h, two reads:",
         b"\x00\x80\x01\x2D\x00\x80\x03\x00\x03\x00",
     );
 }
 
 // The number of a code, or a dash where it has none.
-fn print_code(numbering: Numbering, lead: u8, trail: u8) {
-    print_word(b" ", lead, trail);
+fn print_code(rt: &HostRuntime, numbering: Numbering, lead: u8, trail: u8) {
+    print_word(rt, b" ", lead, trail);
     let code = number(numbering, lead, trail);
     match code {
-        Code::Number(n) => print_count(b" ", n as usize),
-        Code::Unnumbered => print(b" -"),
+        Code::Number(n) => print_count(rt, b" ", n as usize),
+        Code::Unnumbered => print(rt, b" -"),
     }
 }
 
 // The numbers of codes, by one numbering.
-pub(crate) fn codes(label: &[u8], numbering: Numbering, codes: &[u8]) {
-    print(label);
+pub(crate) fn codes(rt: &HostRuntime, label: &[u8], numbering: Numbering, codes: &[u8]) {
+    print(rt, label);
     let pairs = codes.len() / 2;
     for i in 0..pairs {
         let at = 2 * i;
-        print_code(numbering, codes[at], codes[at + 1]);
+        print_code(rt, numbering, codes[at], codes[at + 1]);
     }
-    print(b"\n");
+    print(rt, b"\n");
 }

@@ -13,22 +13,22 @@ use panel::{Outcome, Panel};
 const UNTOUCHED: u8 = 0xAA;
 
 // What drawing a fresh panel into the frame answers.
-pub(crate) fn print_drawing(frame: &mut [u8]) {
+pub(crate) fn print_drawing(rt: &HostRuntime, frame: &mut [u8]) {
     let half = [0u8; 2048];
     let full = [0u8; 32];
     let panel = fresh(true);
     let number = panel.draw(frame, &half, &full, false);
-    print_count(b"", frame.len());
-    print_count(b" ", number as usize);
-    print(b"\n");
+    print_count(rt, b"", frame.len());
+    print_count(rt, b" ", number as usize);
+    print(rt, b"\n");
 }
 
 // Prints what a call answered, and hands the panel on.
-fn told(label: &[u8], outcome: Outcome) -> Panel
+fn told(rt: &HostRuntime, label: &[u8], outcome: Outcome) -> Panel
     requires { Valid (state_of outcome.panel) }
     ensures { Valid (state_of result) }
 {
-    print_answer(label, outcome.number, outcome.reply, outcome.count);
+    print_answer(rt, label, outcome.number, outcome.reply, outcome.count);
     outcome.panel
 }
 
@@ -86,46 +86,71 @@ fn changed(frame: &[u8]) -> usize {
 }
 
 // A transfer and a bit.
-fn carry(panel: Panel, frame: &mut [u8], half: &[u8], full: &[u8]) -> Panel
+fn carry(rt: &HostRuntime, panel: Panel, frame: &mut [u8], half: &[u8], full: &[u8]) -> Panel
     requires { Valid (state_of panel) }
     ensures { Valid (state_of result) }
 {
     let next = told(
+        rt,
         b"transfer ",
         panel.transfer(Transfer::Read, frame, half, full, false),
     );
-    told(b", bit ", next.bit(false, frame, half, full, false))
+    told(rt, b", bit ", next.bit(false, frame, half, full, false))
 }
 
 // Chip select low, and time that passes on a panel without time.
-fn select_and_pass(panel: Panel, frame: &mut [u8], half: &[u8], full: &[u8]) -> Panel
+fn select_and_pass(
+    rt: &HostRuntime,
+    panel: Panel,
+    frame: &mut [u8],
+    half: &[u8],
+    full: &[u8],
+) -> Panel
     requires { Valid (state_of panel) }
     ensures { Valid (state_of result) }
 {
-    let next = told(b", select-low ", panel.select_low(frame, half, full, false));
-    told(b", pass ", next.pass(1, frame, half, full, false))
+    let next = told(
+        rt,
+        b", select-low ",
+        panel.select_low(frame, half, full, false),
+    );
+    told(rt, b", pass ", next.pass(1, frame, half, full, false))
 }
 
 // Reset, and the picture drawn afresh.
-fn restart(panel: Panel, pin: Pin, frame: &mut [u8], half: &[u8], full: &[u8]) -> Panel
+fn restart(
+    rt: &HostRuntime,
+    panel: Panel,
+    pin: Pin,
+    frame: &mut [u8],
+    half: &[u8],
+    full: &[u8],
+) -> Panel
     requires { Valid (state_of panel) }
     ensures { Valid (state_of result) }
 {
-    let next = told(b", reset ", panel.reset(pin, frame, half, full, false));
+    let next = told(rt, b", reset ", panel.reset(pin, frame, half, full, false));
     let number = next.draw(frame, half, full, false);
-    print_count(b", draw ", number as usize);
-    print_count(b"; changed ", changed(frame));
+    print_count(rt, b", draw ", number as usize);
+    print_count(rt, b"; changed ", changed(frame));
     next
 }
 
 // Every call in turn on one panel, each handing it to the next.
-fn knock(panel: Panel, pin: Pin, frame: &mut [u8], half: &[u8], full: &[u8]) -> Panel
+fn knock(
+    rt: &HostRuntime,
+    panel: Panel,
+    pin: Pin,
+    frame: &mut [u8],
+    half: &[u8],
+    full: &[u8],
+) -> Panel
     requires { Valid (state_of panel) }
     ensures { Valid (state_of result) }
 {
-    let next = carry(panel, frame, half, full);
-    let last = select_and_pass(next, frame, half, full);
-    restart(last, pin, frame, half, full)
+    let next = carry(rt, panel, frame, half, full);
+    let last = select_and_pass(rt, next, frame, half, full);
+    restart(rt, last, pin, frame, half, full)
 }
 
 // The pin, with the old numbering.
@@ -137,24 +162,27 @@ fn pin(parallel: bool) -> Pin {
 }
 
 // A parallel panel that has written half a word.
-fn on_parallel(frame: &mut [u8], half: &[u8], full: &[u8]) {
-    print(b"  parallel: ");
-    let last = knock(half_written(), pin(true), frame, half, full);
-    print_state(told(b"; then read ", transferred(last, Transfer::Read)));
+fn on_parallel(rt: &HostRuntime, frame: &mut [u8], half: &[u8], full: &[u8]) {
+    print(rt, b"  parallel: ");
+    let last = knock(rt, half_written(), pin(true), frame, half, full);
+    print_state(
+        rt,
+        told(rt, b"; then read ", transferred(last, Transfer::Read)),
+    );
 }
 
 // A serial panel that has heard all bits of a write but the last.
-fn on_serial(frame: &mut [u8], half: &[u8], full: &[u8]) {
-    print(b"  serial: ");
-    let last = knock(heard(0xFA20D000, 23), pin(false), frame, half, full);
-    print_state(told(b"; then bit ", shifted(last, false)));
+fn on_serial(rt: &HostRuntime, frame: &mut [u8], half: &[u8], full: &[u8]) {
+    print(rt, b"  serial: ");
+    let last = knock(rt, heard(0xFA20D000, 23), pin(false), frame, half, full);
+    print_state(rt, told(rt, b"; then bit ", shifted(last, false)));
 }
 
-fn print_lengths(n: usize, h: usize, f: usize) {
-    print_count(b"frame ", n);
-    print_count(b", half ", h);
-    print_count(b", full ", f);
-    print(b"\n");
+fn print_lengths(rt: &HostRuntime, n: usize, h: usize, f: usize) {
+    print_count(rt, b"frame ", n);
+    print_count(rt, b", half ", h);
+    print_count(rt, b", full ", f);
+    print(rt, b"\n");
 }
 
 // Long buffers come from functions, so that a proof knows their lengths alone and never writes them out.
@@ -167,41 +195,41 @@ fn long_full_font() -> [u8; 281632] {
 }
 
 // Every call with buffers of these lengths.
-fn lent(n: usize, h: usize, f: usize)
+fn lent(rt: &HostRuntime, n: usize, h: usize, f: usize)
     requires { (n ≤ 65536) × (h ≤ 2049) × (f ≤ 281632) }
 {
     let mut frame = long_frame();
     let mut other = long_frame();
     let half = [0u8; 2049];
     let full = long_full_font();
-    print_lengths(n, h, f);
-    on_parallel(&mut frame[..n], &half[..h], &full[..f]);
-    on_serial(&mut other[..n], &half[..h], &full[..f]);
+    print_lengths(rt, n, h, f);
+    on_parallel(rt, &mut frame[..n], &half[..h], &full[..f]);
+    on_serial(rt, &mut other[..n], &half[..h], &full[..f]);
 }
 
-pub(crate) fn refusals() {
-    lent(1024, 2048, 0);
-    lent(1024, 2048, 32);
-    lent(1024, 2048, 267296);
-    lent(1024, 2048, 281600);
-    lent(0, 2048, 32);
-    lent(1023, 2048, 32);
-    lent(1025, 2048, 32);
-    lent(65536, 2048, 32);
-    lent(1024, 0, 32);
-    lent(1024, 2047, 32);
-    lent(1024, 2049, 32);
-    wrong_full_fonts();
+pub(crate) fn refusals(rt: &HostRuntime) {
+    lent(rt, 1024, 2048, 0);
+    lent(rt, 1024, 2048, 32);
+    lent(rt, 1024, 2048, 267296);
+    lent(rt, 1024, 2048, 281600);
+    lent(rt, 0, 2048, 32);
+    lent(rt, 1023, 2048, 32);
+    lent(rt, 1025, 2048, 32);
+    lent(rt, 65536, 2048, 32);
+    lent(rt, 1024, 0, 32);
+    lent(rt, 1024, 2047, 32);
+    lent(rt, 1024, 2049, 32);
+    wrong_full_fonts(rt);
 }
 
-fn wrong_full_fonts() {
-    lent(1024, 2048, 31);
-    lent(1024, 2048, 33);
-    lent(1024, 2048, 281599);
-    lent(1024, 2048, 281601);
-    lent(1024, 2048, 281632);
-    lent(1023, 2047, 32);
-    lent(1023, 2048, 33);
-    lent(1024, 2047, 33);
-    lent(1023, 2047, 33);
+fn wrong_full_fonts(rt: &HostRuntime) {
+    lent(rt, 1024, 2048, 31);
+    lent(rt, 1024, 2048, 33);
+    lent(rt, 1024, 2048, 281599);
+    lent(rt, 1024, 2048, 281601);
+    lent(rt, 1024, 2048, 281632);
+    lent(rt, 1023, 2047, 32);
+    lent(rt, 1023, 2048, 33);
+    lent(rt, 1024, 2047, 33);
+    lent(rt, 1023, 2047, 33);
 }

@@ -1,30 +1,28 @@
 // What is printed.
-use libc::STDOUT_FILENO;
-
-pub(crate) fn print(text: &[u8]) {
-    io::write_all(STDOUT_FILENO, text);
+pub(crate) fn print(rt: &HostRuntime, text: &[u8]) {
+    let _ = rt.stdout().write_all(text);
 }
 
-pub(crate) fn print_count(label: &[u8], count: usize) {
-    print(label);
-    io::print_decimal(STDOUT_FILENO, count as u64);
+pub(crate) fn print_count(rt: &HostRuntime, label: &[u8], count: usize) {
+    print(rt, label);
+    let _ = print!(rt; "{count}");
 }
 
-pub(crate) fn print_byte(label: &[u8], byte: u8) {
-    print(label);
-    io::print_hex(STDOUT_FILENO, byte as u64, 2);
+pub(crate) fn print_byte(rt: &HostRuntime, label: &[u8], byte: u8) {
+    print(rt, label);
+    let _ = print!(rt; "{byte:02x}");
 }
 
-pub(crate) fn print_word(label: &[u8], high: u8, low: u8) {
-    print_byte(label, high);
-    print_byte(b"", low);
+pub(crate) fn print_word(rt: &HostRuntime, label: &[u8], high: u8, low: u8) {
+    print_byte(rt, label, high);
+    print_byte(rt, b"", low);
 }
 
-pub(crate) fn print_flag(label: &[u8], flag: bool) {
-    print(label);
+pub(crate) fn print_flag(rt: &HostRuntime, label: &[u8], flag: bool) {
+    print(rt, label);
     if flag {
-        print(b"1");
+        print(rt, b"1");
         return;
     }
-    print(b"0");
+    print(rt, b"0");
 }

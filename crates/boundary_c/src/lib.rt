@@ -1,0 +1,61 @@
+// What `boundary` has, exported for C or Rust to link: each call with the clauses that it has there, and nothing besides.
+#![tactic(auto)]
+
+mod pair;
+
+ghost use Rattle.std.specs.Prelude.{◌≡◌};
+ghost use Rattle.controller.specs.Memories.{memories};
+ghost use Rattle.controller.specs.State.{numbering_of};
+ghost use Rattle.picture.specs.Picture.{seen};
+ghost use Rattle.picture.specs.Refusals.{drawing, drawn};
+ghost use Rattle.sender.specs.Sender.{leaving, sent};
+ghost use Rattle.state_bytes.specs.Packed.{unpacked};
+ghost use Rattle.boundary.specs.Report.{report, fresh_replay};
+
+// Draws the picture of a state into the frame, and answers 0 or the refusal's number.
+#[unsafe(no_mangle)]
+pub extern "C" fn zifqarell_draw(
+    text: &[u8; 128],
+    glyph: &[u8; 128],
+    graphic: &[u8; 2048],
+    control: &[u8; 27],
+    frame: &mut [u8],
+    half: &[u8],
+    full: &[u8],
+    phase: bool,
+) -> u8
+    ensures { drawing result frame.new ≡ drawn (seen half.now full.now phase) (memories text.now glyph.now graphic.now) (unpacked control.now) frame.old }
+{
+    boundary::zifqarell_draw(text, glyph, graphic, control, frame, half, full, phase)
+}
+
+// Puts the three bytes that carry a write over the serial link into the buffer, and answers 0 or the refusal's number.
+#[unsafe(no_mangle)]
+pub extern "C" fn zifqarell_send(register: bool, byte: u8, buffer: &mut [u8]) -> u8
+    ensures { leaving result buffer.new ≡ sent register byte buffer.old }
+{
+    boundary::zifqarell_send(register, byte, buffer)
+}
+
+// Replays a capture on a fresh panel, with or without time, by the old numbering or the new (`by160`), and answers the number with which
+// that stopped, 0 at the end of the capture. Leaves the state in which the panel then is, and the place with what the last accepted
+// record answered. Refused with 1, 2 or 3 it leaves all that it was lent.
+#[unsafe(no_mangle)]
+pub extern "C" fn zifqarell_replay(
+    parallel: bool,
+    time: bool,
+    by160: bool,
+    capture: &[u8],
+    frame: &mut [u8],
+    half: &[u8],
+    full: &[u8],
+    phase: bool,
+    state: &mut [u8; 2341],
+    last: &mut [u8; 11],
+) -> u8
+    ensures { report result frame.new state.new last.new ≡ fresh_replay (record { parallel = parallel; time = time; numbering = numbering_of by160 }) (seen half.now full.now phase) capture.now frame.old state.old last.old }
+{
+    boundary::zifqarell_replay(
+        parallel, time, by160, capture, frame, half, full, phase, state, last,
+    )
+}
