@@ -2,21 +2,17 @@
 use Prim.Native.Nat.{ℕ, ◌≤◌, ◌<◌}
 use mathlib.Core.Bool.{Bool, true, false, not}
 use mathlib.Core.List.{List, [], ◌∷◌, ◌++◌}
-use mathlib.Core.Logic.{inl, inr}
 use mathlib.Core.Path.{◌≡◌, refl, sym, ap, ◌∙◌}
 use native.Mathlib.Omega.{arith}
 use borrow.Author.Tests.{eq-eqb, ne_eqb, le-leb, lt-leb}
 use lib.Dec.{eqb, leb}
 use lib.ListN.{length, get_or}
-use types.Run.{OneOf}
-use denote.Enum.Declared.{tag_of}
 use Rattle.base.specs.Choice.{if◌then◌else◌}
 use Rattle.base.proofs.Choice.{either}
 use Rattle.capture.specs.declared.Answer.{Answer}
 use Rattle.capture.specs.declared.Answer.TheVariants.{Record, Refused, End}
 use Rattle.capture.specs.Kinds.{known, kind_of, allowed}
 use Rattle.capture.specs.Record.{marked, kind_byte, value_byte, read_first, number, values, passed}
-use Rattle.capture.specs.contracts.Answer.{the_type}
 
 pub nothing_left : (c : List ℕ) → length c ≡ 0 → read_first c ≡ End
 unfolding read_first
@@ -78,12 +74,11 @@ passed-within (a ∷ b ∷ d ∷ e ∷ c) = omega (arith, passed_at_most_four (r
 pub record_within : (c : List ℕ) {kind value : ℕ} → read_first c ≡ Record kind value → 4 ≤ length c
 record_within c h = omega (arith, passed-within c, ap passed h)
 
--- in the `else` of a `let` that wants a record there is none: the tag is another case's
-pub no_record_in_else : (a : Answer) → OneOf (1 ∷ 2 ∷ []) (tag_of the_type a) → passed a ≡ 0
-no_record_in_else (Record kind value) (inl t) = absurd (omega arith)
-no_record_in_else (Record kind value) (inr t) = absurd (omega arith)
-no_record_in_else (Refused n) t = refl
-no_record_in_else End t = refl
+-- in the `else` of a `let` that wants a record there is none
+pub no_record_in_else : (a : Answer) → ((kind value : ℕ) → a ≡ Record kind value → ⊥) → passed a ≡ 0
+no_record_in_else (Record kind value) none = absurd (none kind value refl)
+no_record_in_else (Refused n) none = refl
+no_record_in_else End none = refl
 
 -- a refusal's number is not 0
 abbrev pub Numbered : Answer → Type 0

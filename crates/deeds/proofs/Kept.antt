@@ -5,7 +5,7 @@ use mathlib.Core.Path.{◌≡◌, refl, sym, subst}
 use mathlib.Core.List.{List}
 use native.Mathlib.Omega.{arith}
 use lib.Dec.{ltb}
-use lib.ListN.{length, length-set, replicate}
+use lib.ListN.{length, length-set}
 use Rattle.base.specs.Choice.{if◌then◌else◌}
 use Rattle.base.proofs.Choice.{either}
 use Rattle.table.specs.declared.Target.{Target}
@@ -30,7 +30,7 @@ use Rattle.controller.specs.declared.View.{View}
 use Rattle.controller.specs.declared.Time.{Time}
 use Rattle.controller.specs.declared.Control.{Control}
 use Rattle.deeds.specs.declared.Done.{Done}
-use Rattle.controller.specs.Memories.{Memories, memories, fresh_memories}
+use Rattle.controller.specs.Memories.{Memories, fresh_memories}
 use Rattle.controller.specs.State.{fresh_control, remade, limit, RowInRange, longest, InRange, AllInRange}
 use Rattle.controller.specs.Instructions.{with_place, with_entry, with_view, with_time, with_waiting, pointed, begun, home, stepped, display_moved, graphic_addressed, with_scroll, with_shift, reverse_toggled, obeyed, cleared, modes}
 use Rattle.controller.specs.Data.{stored, next_counter, moved, shifts, moved_on, dummy_read}

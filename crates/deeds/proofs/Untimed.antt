@@ -1,7 +1,7 @@
 -- A transfer leaves the time alone but for its cost, and nothing that reaches the controller changes whether there is time. Where it is not
 -- busy nothing is lost; and without time nothing costs either: every transfer is carried out as it was before there was time.
 use Prim.Native.Nat.{ℕ, ◌≤◌}
-use mathlib.Core.Bool.{Bool, true, false, ◌&&◌}
+use mathlib.Core.Bool.{Bool, false, ◌&&◌}
 use mathlib.Core.Path.{◌≡◌, refl, ap, subst, ◌∙◌}
 use native.Mathlib.Omega.{arith}
 use lib.Dec.{ltb}

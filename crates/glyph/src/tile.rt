@@ -25,7 +25,6 @@ fn taken(from: &[u8], at: usize) -> [u8; 16]
     block
 }
 
-#[tactic(auto, unfolding(base::specs::Painting::painted, base::specs::Painting::between))]
 fn store(tiles: &mut [u8], to: usize, block: [u8; 16])
     requires { to + 16 ≤ length tiles.old }
     ensures { tiles.new ≡ painted (between to (to + 16) everywhere) (λ i. get_or block (i - to) 0) tiles.old }
@@ -39,7 +38,6 @@ fn store(tiles: &mut [u8], to: usize, block: [u8; 16])
 }
 
 // Thirty-two bytes that lie together in a font or in glyph memory.
-#[tactic(auto, unfolding(base::specs::Painting::painted, base::specs::Painting::between))]
 fn lay_block(tiles: &mut [u8], to: usize, from: &[u8], at: usize)
     requires { (to + 32 ≤ length tiles.old) × (at + 32 ≤ length from.now) }
     ensures { tiles.new ≡ painted (between to (to + 32) everywhere) (λ i. get_or from.now (at + (i - to)) 0) tiles.old }
@@ -49,7 +47,6 @@ fn lay_block(tiles: &mut [u8], to: usize, from: &[u8], at: usize)
 }
 
 // Two columns of sixteen bytes side by side.
-#[tactic(auto, unfolding(base::specs::Painting::painted, base::specs::Painting::between))]
 fn store_beside(tiles: &mut [u8], to: usize, left: [u8; 16], right: [u8; 16])
     requires { to + 32 ≤ length tiles.old }
     ensures { tiles.new ≡ painted (between to (to + 32) everywhere) (λ i. beside left right (i - to)) tiles.old }
@@ -92,7 +89,7 @@ fn column(code: u8, half: &[u8]) -> [u8; 16]
 }
 
 // Two half glyphs. Where both are there, as almost always, nothing more is asked of either.
-#[tactic(auto, unfolding(base::specs::Painting::painted, base::specs::Painting::between, base::specs::Lists::upto, crate::specs::Dots::half_byte))]
+#[tactic(auto, unfolding(base::specs::Lists::upto, crate::specs::Dots::half_byte))]
 fn lay_halves(high: u8, low: u8, tiles: &mut [u8], to: usize, half: &[u8])
     requires { (to + 32 ≤ length tiles.old) × (length half.now ≡ 2048) }
     ensures { tiles.new ≡ painted (between to (to + 32) everywhere) (λ i. beside (upto 16 (half_byte half.now high)) (upto 16 (half_byte half.now low)) (i - to)) tiles.old }
@@ -119,7 +116,7 @@ fn box_column(edge: u8) -> [u8; 16]
     column
 }
 
-#[tactic(auto, unfolding(base::specs::Painting::painted, base::specs::Painting::between, crate::specs::Dots::box_byte))]
+#[tactic(auto, unfolding(crate::specs::Dots::box_byte))]
 fn lay_box(tiles: &mut [u8], to: usize)
     requires { to + 32 ≤ length tiles.old }
     ensures { tiles.new ≡ painted (between to (to + 32) everywhere) (λ i. box_byte ((i - to) / 2) (odd (i - to))) tiles.old }
@@ -127,7 +124,6 @@ fn lay_box(tiles: &mut [u8], to: usize)
     store_beside(tiles, to, box_column(0x80), box_column(0x01));
 }
 
-#[tactic(auto, unfolding(base::specs::Painting::painted, base::specs::Painting::between))]
 fn lay_blank(tiles: &mut [u8], to: usize)
     requires { to + 32 ≤ length tiles.old }
     ensures { tiles.new ≡ painted (between to (to + 32) everywhere) (λ i. 0) tiles.old }
@@ -137,7 +133,6 @@ fn lay_blank(tiles: &mut [u8], to: usize)
 }
 
 // What a cell shows, as the tile that begins at `to`.
-#[tactic(auto, unfolding(base::specs::Painting::painted, base::specs::Painting::between))]
 pub fn lay(
     content: Content,
     tiles: &mut [u8],

@@ -42,7 +42,6 @@ fn answer(left: usize, right: usize) -> u32
 
 // A clock of the wire, with the bit and both selects: answers the refusal number in bits 7..0, the left panel's count in bits 19..8 and the
 // right's in bits 31..20. Refused it leaves all that it was lent.
-#[tactic(auto, unfolding(crate::specs::Report::pair_reported))]
 pub fn bit(
     left_text: &mut [u8; 128],
     left_glyph: &mut [u8; 128],

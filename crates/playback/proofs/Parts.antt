@@ -1,6 +1,6 @@
 -- A capture replayed in parts of whole records: its records are those of the parts, and each part begins where the one before it ended.
 use Prim.Native.Nat.{ℕ, zero, suc, ◌+◌, ◌-◌}
-use mathlib.Core.Bool.{Bool, true, false, not, ◌&&◌, true≢false}
+use mathlib.Core.Bool.{Bool, true, false, not}
 use mathlib.Core.List.{List, [], ◌∷◌, ◌++◌, append_assoc}
 use mathlib.Core.Path.{◌≡◌, refl, sym, ap, subst, ◌∙◌}
 use native.Mathlib.Omega.{arith}
@@ -21,9 +21,9 @@ use Rattle.reader.specs.Capture.{Recorded, Contents}
 use Rattle.reader.proofs.Contents.{joined_at, contents-of-parts, Stops, contents-stop}
 use Rattle.records.specs.Records.{record_called}
 use Rattle.printed.specs.Text.{RecordAnswer, line, lines}
-use Rattle.playback.specs.Replay.{Ending, Replayed, Room, endless, bytes, room_for, room_behind, ended, halted, after_answers, records_replayed, read_by, replayed}
-use Rattle.playback.specs.Transcript.{Told, told, transcribed}
-use Rattle.playback.specs.Statements.{gone_on, PartsReplayAsWhole, Joins, TranscribesAsWhole, PartsTranscribeAsWhole}
+use Rattle.playback.specs.Replay.{Replayed, Room, endless, bytes, room_for, room_behind, ended, halted, after_answers, records_replayed, read_by, replayed}
+use Rattle.playback.specs.Transcript.{told, transcribed}
+use Rattle.playback.specs.Statements.{gone_on, PartsReplayAsWhole, Joins, PartsTranscribeAsWhole}
 use Rattle.playback.proofs.Answers.{answer_from}
 use Rattle.records.proofs.Refused.{record_timed, record_length}
 
@@ -104,9 +104,10 @@ module _ (e : Seen) where
   unfolding records_replayed
   stays-refused last h room [] s f n = rw h
   stays-refused last h room (r ∷ xs) s f n =
+      let k : Called = record_called e r.kind r.value s f in
       either (λ (x : Replayed). ended x.ending ≡ false) (not (room_for room n)) refl
-      (either-told (λ (x : Replayed). ended x.ending ≡ false) (eqb (record_called e r.kind r.value s f).number 0)
-      (λ t. stays-refused last h _ xs _ _ _)
+      (either-told (λ (x : Replayed). ended x.ending ≡ false) (eqb k.number 0)
+      (λ t. stays-refused last h (room_behind room (line n (answer_from r.kind k))) xs k.state k.frame (n + 1))
       (λ t. rw t))
 
   replayed-by-stop :
@@ -123,9 +124,10 @@ module _ (e : Seen) where
   unfolding records_replayed
   replayed-length last room [] s f n = refl
   replayed-length last room (r ∷ xs) s f n =
+      let k : Called = record_called e r.kind r.value s f in
       either (λ (x : Replayed). length x.ending.frame ≡ length f) (not (room_for room n)) refl
-      (either (λ (x : Replayed). length x.ending.frame ≡ length f) (eqb (record_called e r.kind r.value s f).number 0)
-      (replayed-length last _ xs _ _ _ ∙ record_length e r.kind r.value s f)
+      (either (λ (x : Replayed). length x.ending.frame ≡ length f) (eqb k.number 0)
+      (replayed-length last (room_behind room (line n (answer_from r.kind k))) xs k.state k.frame (n + 1) ∙ record_length e r.kind r.value s f)
       refl)
 
   replayed_timed :
@@ -134,9 +136,10 @@ module _ (e : Seen) where
   unfolding records_replayed
   replayed_timed last room [] s f n = refl
   replayed_timed last room (r ∷ xs) s f n =
+      let k : Called = record_called e r.kind r.value s f in
       either (λ (x : Replayed). x.ending.state.control.time.timed ≡ s.control.time.timed) (not (room_for room n)) refl
-      (either (λ (x : Replayed). x.ending.state.control.time.timed ≡ s.control.time.timed) (eqb (record_called e r.kind r.value s f).number 0)
-      (replayed_timed last _ xs _ _ _ ∙ record_timed e r.kind r.value s f)
+      (either (λ (x : Replayed). x.ending.state.control.time.timed ≡ s.control.time.timed) (eqb k.number 0)
+      (replayed_timed last (room_behind room (line n (answer_from r.kind k))) xs k.state k.frame (n + 1) ∙ record_timed e r.kind r.value s f)
       refl)
 
   -- where frame and fonts are not refused, nothing is asked of them again; and the next part is read as the first was
@@ -179,9 +182,10 @@ module _ (e : Seen) where
   unfolding records_replayed
   records-place last room [] s f n = omega arith
   records-place last room (r ∷ xs) s f n =
+      let k : Called = record_called e r.kind r.value s f in
       either (λ (x : Replayed). x.ending.place ≡ n + length x.answers) (not (room_for room n)) (omega arith)
-      (either (λ (x : Replayed). x.ending.place ≡ n + length x.answers) (eqb (record_called e r.kind r.value s f).number 0)
-      (records-place last _ xs _ _ _ ∙ omega arith)
+      (either (λ (x : Replayed). x.ending.place ≡ n + length x.answers) (eqb k.number 0)
+      (records-place last (room_behind room (line n (answer_from r.kind k))) xs k.state k.frame (n + 1) ∙ omega arith)
       (omega arith))
 
   pub replayed-place :

@@ -13,7 +13,7 @@ use Rattle.sender.specs.Sender.{highest_first}
 use Rattle.picture.specs.Picture.{Seen}
 use Rattle.capture.specs.Kinds.{Kind, instruction_write, data_write, status_read, data_read, eight_bits, chip_select_low, reset, time_passes, kind_of}
 use Rattle.calls.specs.State.{State}
-use Rattle.calls.specs.Calls.{Called, refused, called}
+use Rattle.calls.specs.Calls.{Called, called}
 use Rattle.calls.proofs.Kept.{Unmoved, called_unmoved, called_timed, called-length}
 use Rattle.records.specs.Records.{asks, called_on, first_number, called_in_turn, record_called}
 

@@ -3,17 +3,13 @@ use Prim.Native.Nat.{ℕ}
 use mathlib.Core.Path.{◌≡◌, refl}
 use mathlib.Core.List.{List, [], ◌++◌, append_assoc, append-nil}
 use native.Mathlib.Omega.{arith}
-use lib.ListN.{length, take, drop, length-append, length-drop, drop_of_length-le}
-use lib.Seq.{take-length, take_at, drop_at}
+use lib.ListN.{length, drop, length-append, length-drop, drop_of_length-le}
+use lib.Seq.{take_at, drop_at}
 use borrow.Rule.Slice.PartMut.{put_mid}
 use Rattle.calls.specs.State.{State}
 use Rattle.state_bytes.specs.Packed.{packed}
 use Rattle.state_bytes.specs.LinkPacked.{link_packed}
 use Rattle.spelling.specs.Spelled.{state_bytes}
-
--- a copy over as many bytes leaves none of them
-pub copied : (part out : List ℕ) → length part ≡ length out → take (length part) part ++ drop (length part) out ≡ part
-copied part out h = rw (take-length part, drop_of_length-le out {i = length part} (omega arith), append-nil)
 
 -- one more part behind what is laid already
 laid : (n k : ℕ) (before part rest : List ℕ) → length before ≡ n → put_mid n k (before ++ rest) part ≡ (before ++ part) ++ drop k rest

@@ -17,7 +17,6 @@ fn put(part: &[u8], out: &mut [u8])
 }
 
 // The whole state, part by part.
-#[tactic(auto, unfolding(crate::specs::Spelled::state_bytes))]
 pub fn spell_state(panel: Panel, out: &mut [u8])
     requires { length out.old ≡ 2341 }
     ensures { out.new ≡ state_bytes (state_of panel) }

@@ -97,6 +97,7 @@ fn by_value() -> u32 {
     sum
 }
 
+#[tactic(auto, using(deeds::proofs::Kept::fresh_in_range))]
 fn on_lent(what: u8) -> u32 {
     let mut text = [0x20u8; 128];
     let mut glyph = [0u8; 128];
