@@ -6,7 +6,7 @@ use mathlib.Core.Path.{◌≡◌, refl, sym, ◌∙◌}
 use native.Mathlib.Omega.{arith}
 use lib.Dec.{eqb}
 use lib.ListN.{length, get_or}
-use Rattle.base.specs.Choice.{if◌then◌else◌}
+use Rattle.base.specs.Choice.{when◌then◌else◌}
 use Rattle.base.specs.Painting.{count}
 use Rattle.base.proofs.Choice.{either-told, by_test}
 use Rattle.base.proofs.Counting.{count_none}
@@ -58,7 +58,7 @@ taken-shows :
     → length frame ≡ 1024
     → i < 1024
     → get_or (unless_other e s frame t).frame i 0
-    ≡ (if named_taken s t i then get_or (picture_of e (unless_other e s frame t).state) i 0 else get_or frame i 0)
+    ≡ (when named_taken s t i then get_or (picture_of e (unless_other e s frame t).state) i 0 else get_or frame i 0)
 unfolding repainted performed named covers
 taken-shows e s frame OtherLink i l h = refl
 taken-shows e s frame (Carries c) i l h =
@@ -83,11 +83,11 @@ taken-keeps e s frame (Carries c) i v h u =
 module _ (e : Seen) (s : State) (frame : List ℕ) (call : Event) (i : ℕ) (fits : Fits e frame) (h : i < 1024) where
   call-shows :
       get_or (called e s frame call).frame i 0
-      ≡ (if named_by s call i then get_or (picture_of e (called e s frame call).state) i 0 else get_or frame i 0)
+      ≡ (when named_by s call i then get_or (picture_of e (called e s frame call).state) i 0 else get_or frame i 0)
   call-shows =
       rw (admitted e s frame call fits)
       (either-told
-      (λ (k : Called). get_or k.frame i 0 ≡ (if named_by s call i then get_or (picture_of e k.state) i 0 else get_or frame i 0))
+      (λ (k : Called). get_or k.frame i 0 ≡ (when named_by s call i then get_or (picture_of e k.state) i 0 else get_or frame i 0))
       (timeless s.control call)
       (λ w. rw (timeless_names s call i w))
       (λ w. taken-shows e s frame (taken_on s call) i

@@ -9,7 +9,7 @@ use native.Mathlib.Omega.{arith}
 use lib.Dec.{eqb, leb}
 use lib.ListN.{length, get_or}
 use borrow.Author.Tests.{ne_eqb, lt-leb, le-leb}
-use Rattle.base.specs.Choice.{if◌then◌else◌}
+use Rattle.base.specs.Choice.{when◌then◌else◌}
 use Rattle.base.proofs.Choice.{either, by_test}
 use Rattle.base.proofs.Counting.{count_cong}
 use Rattle.table.specs.declared.Instruction.{Instruction}
@@ -72,7 +72,7 @@ use Rattle.demands.proofs.Carried.{of-paired}
 use Rattle.demands.proofs.Timely.{timeless-same}
 
 -- what holds of both pairs of answers holds of the pair that a test picks
-both_picked : {A B : Type 0} (R : A → B → Type 0) (t : Bool) {a c : A} {b d : B} → R a b → R c d → R (if t then a else c) (if t then b else d)
+both_picked : {A B : Type 0} (R : A → B → Type 0) (t : Bool) {a c : A} {b d : B} → R a b → R c d → R (when t then a else c) (when t then b else d)
 both_picked R true p q = p
 both_picked R false p q = q
 
@@ -109,7 +109,7 @@ full-alike high low size (Number i) h l e = long-enough size i (read_back By96 h
 pub end_not_asked_for_lem : EndNotAskedFor
 unfolding content_of font_of
 end_not_asked_for_lem high low size h l =
-    ap (λ (c : Content). image_or (image_of high low) (if leb 0xA1 high then c else Halves high low)) (full-alike high low size (number_of By96 high low) h l refl)
+    ap (λ (c : Content). image_or (image_of high low) (when leb 0xA1 high then c else Halves high low)) (full-alike high low size (number_of By96 high low) h l refl)
 
 -- a word from A1h on is no image, and goes by its code; one that has a number is such a word
 pub by_code : (n : Numbering) (high low size : ℕ) → 0xA1 ≤ high → content_of n high low size ≡ full_of (number_of n high low) size
