@@ -1,10 +1,9 @@
 -- Demand 3, from the laws of one call: what it names becomes the picture's, and what it does not name keeps its byte in frame and picture.
-use Prim.Native.Nat.{ℕ, ◌≤◌, ◌<◌, ◌/◌, ◌%◌}
+use Prim.Native.Nat.{ℕ, ◌<◌, ◌/◌, ◌%◌}
 use mathlib.Core.Bool.{Bool, false}
 use mathlib.Core.List.{List, [], ◌∷◌}
 use mathlib.Core.Path.{◌≡◌, refl, sym, ◌∙◌}
 use native.Mathlib.Omega.{arith}
-use lib.Dec.{eqb}
 use lib.ListN.{length, get_or}
 use Rattle.base.specs.Choice.{when◌then◌else◌}
 use Rattle.base.specs.Painting.{count}
@@ -12,15 +11,12 @@ use Rattle.base.proofs.Choice.{either-told, by_test}
 use Rattle.base.proofs.Counting.{count_none}
 use Rattle.base.proofs.Painting.{painted-at}
 use Rattle.base.proofs.Tests.{or_neither}
-use Rattle.controller.specs.declared.Control.{Control}
-use Rattle.controller.specs.Memories.{Memories}
 use Rattle.controller.specs.Named.{covers}
 use Rattle.deeds.specs.Transfers.{performed}
 use Rattle.events.specs.declared.Event.{Event}
 use Rattle.links.specs.declared.Taken.{Taken}
 use Rattle.links.specs.declared.Taken.TheVariants.{OtherLink, Carries}
 use Rattle.picture.specs.Picture.{Seen, look_of, wide}
-use Rattle.picture.specs.Refusals.{refusal_of}
 use Rattle.picture.proofs.Wide.{picture-at}
 use Rattle.picture.proofs.Accepted as sizes
 use Rattle.repaint.specs.Repaint.{named, repainted, count_named}

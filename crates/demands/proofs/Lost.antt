@@ -26,7 +26,6 @@ use Rattle.events.specs.declared.Event.TheVariants.{Bit, SelectLow, Reset, Pass}
 use Rattle.events.specs.declared.Event.TheVariants as event
 use Rattle.events.specs.declared.Transfer.{Transfer}
 use Rattle.events.specs.declared.Transfer.TheVariants.{Instruct, Write, Status, Read}
-use Rattle.events.specs.declared.Deed.{Deed}
 use Rattle.events.specs.declared.Deed.TheVariants as deed
 use Rattle.links.specs.declared.Link.{Link}
 use Rattle.links.specs.declared.Link.TheVariants.{Parallel, Serial}
@@ -40,9 +39,9 @@ use Rattle.links.specs.Halves.{paired}
 use Rattle.links.specs.Taken.{by_width, taken_by, replied}
 use Rattle.picture.specs.Picture.{Seen}
 use Rattle.calls.specs.State.{State, state, fresh_state}
-use Rattle.calls.specs.Calls.{Called, refused, accepted, unless_other, taken_on, reaching, timeless, unless_timeless, Fits, called}
+use Rattle.calls.specs.Calls.{Called, refused, accepted, unless_other, taken_on, reaching, Fits, called}
 use Rattle.calls.proofs.Kept.{admitted, called_timed}
-use Rattle.demands.specs.Lost.{LostWhenBusy, Costs, Brings, LostLeavesAll, BringsNothing, QuietCallsCostNothing, apart_from_time, CarriedOutUnlessLost, StatusShowsBusy, PassFalls, TimeIsKept, FreshIsNotBusy}
+use Rattle.demands.specs.Lost.{LostWhenBusy, Costs, Brings, LostLeavesAll, QuietCallsCostNothing, apart_from_time, CarriedOutUnlessLost, StatusShowsBusy, PassFalls, TimeIsKept, FreshIsNotBusy}
 use Rattle.demands.proofs.Carried.{of-paired}
 use Rattle.demands.proofs.Quiet.{unnamed_accepted}
 use Rattle.demands.proofs.Timely.{admitted-timely, unpassed_timely}

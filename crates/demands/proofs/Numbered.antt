@@ -7,7 +7,7 @@ use mathlib.Core.List.{List, [], ◌∷◌, map}
 use mathlib.Core.Path.{◌≡◌, refl, sym, ap, ap₂, ◌∙◌}
 use native.Mathlib.Omega.{arith}
 use lib.Dec.{eqb, leb}
-use lib.ListN.{length, get_or}
+use lib.ListN.{length}
 use borrow.Author.Tests.{ne_eqb, lt-leb, le-leb}
 use Rattle.base.specs.Choice.{when◌then◌else◌}
 use Rattle.base.proofs.Choice.{either, by_test}
@@ -21,14 +21,14 @@ use Rattle.controller.specs.declared.Control.{Control}
 use Rattle.controller.specs.declared.Region.{Region}
 use Rattle.controller.specs.declared.Region.TheVariants as region
 use Rattle.controller.specs.declared.View.{View}
-use Rattle.controller.specs.Memories.{Memories, memories, word_place}
+use Rattle.controller.specs.Memories.{Memories, memories}
 use Rattle.controller.specs.State.{fresh_control}
 use Rattle.controller.specs.Instructions.{with_view, with_numbering, cleared, modes}
 use Rattle.controller.specs.Data.{stored, found, shifts, moved_on}
 use Rattle.controller.specs.Glass.{image_of, shown_row, shown_word}
 use Rattle.controller.specs.Named.{in_cell, in_some_cell, instruction_names, write_names, read_names, shows_glyph, shows_graphic, covers}
 use Rattle.time.specs.Time.{lost, cost}
-use Rattle.deeds.specs.Transfers.{Acted, acted, executed, written, read_out, status_read, carried_out, nothing_done, at_cost, on_time, performed}
+use Rattle.deeds.specs.Transfers.{Acted, acted, executed, written, read_out, status_read, carried_out, on_time, performed}
 use Rattle.deeds.specs.declared.Done.{Done}
 use Rattle.deeds.proofs.Beside.{obeyed-alike}
 use Rattle.events.specs.declared.Deed.{Deed}
@@ -62,7 +62,7 @@ use Rattle.picture.specs.Picture.{Seen, wide, word_content, cell_byte}
 use Rattle.picture.proofs.Unread.{half-right}
 use Rattle.picture.specs.Refusals.{refusal_of, lent_refusal}
 use Rattle.repaint.specs.Repaint.{named, count_named}
-use Rattle.calls.specs.State.{State, state, fresh_state}
+use Rattle.calls.specs.State.{State, fresh_state}
 use Rattle.calls.specs.Calls.{Called, accepted, unless_other, taken_on, reaching, timeless, called}
 use Rattle.calls.proofs.Kept.{called-length, reset-fresh}
 use Rattle.demands.specs.Wires.{answers}

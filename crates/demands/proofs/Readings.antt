@@ -5,7 +5,7 @@ use mathlib.Core.Bool.{Bool, true, false}
 use mathlib.Core.List.{List, [], ◌∷◌, map}
 use mathlib.Core.Logic.{◌⊎◌, inl, inr}
 use mathlib.Core.Path.{◌≡◌, refl, ap, sym, subst, ◌∙◌}
-use lib.ListN.{length, replicate}
+use lib.ListN.{replicate}
 use Rattle.base.specs.Choice.{when◌then◌else◌}
 use Rattle.base.specs.Painting.{count}
 use Rattle.table.specs.Table.{row_of, said}
@@ -27,7 +27,7 @@ use Rattle.numbering.specs.Numbering.{number_of}
 use Rattle.picture.specs.Picture.{Seen}
 use Rattle.picture.specs.Refusals.{refusal_of}
 use Rattle.repaint.specs.Repaint.{named, count_named}
-use Rattle.calls.specs.State.{State, state, fresh_state}
+use Rattle.calls.specs.State.{State, fresh_state}
 use Rattle.calls.specs.Calls.{Called, accepted, refused, unless_other, taken_on, timeless, Fits, called, after_calls}
 use Rattle.demands.specs.Wires.{answers}
 use Rattle.calls.proofs.Kept.{admitted, still_fits}
