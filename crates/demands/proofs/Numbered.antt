@@ -242,15 +242,15 @@ kept_otherwise e s frame call h =
 
 -- the named bytes do not look at it
 module _ (n : Numbering) (v : View) where
-  abbrev other : View
-  other = with_numbering n v
+  abbrev turned : View
+  turned = with_numbering n v
 
-  cell-alike : (cell : Cell) (row column : ℕ) → in_some_cell v cell row column ≡ in_some_cell other cell row column
+  cell-alike : (cell : Cell) (row column : ℕ) → in_some_cell v cell row column ≡ in_some_cell turned cell row column
   unfolding in_cell shown_row
   cell-alike Nowhere row column = refl
   cell-alike (Word word) row column = refl
 
-  covers-alike : (text : List ℕ) (r : Region) (row column : ℕ) → covers v text r row column ≡ covers other text r row column
+  covers-alike : (text : List ℕ) (r : Region) (row column : ℕ) → covers v text r row column ≡ covers turned text r row column
   unfolding covers shows_glyph shows_graphic shown_row shown_word
   covers-alike text region.Nothing row column = refl
   covers-alike text region.Whole row column = refl
@@ -258,7 +258,7 @@ module _ (n : Numbering) (v : View) where
   covers-alike text (region.GlyphHalf word low) row column = refl
   covers-alike text (region.GraphicHalf y k low) row column = refl
 
-  counted-alike : (text : List ℕ) (r : Region) → count_named wide v text r ≡ count_named wide other text r
+  counted-alike : (text : List ℕ) (r : Region) → count_named wide v text r ≡ count_named wide turned text r
   unfolding count_named named
   counted-alike text r = count_cong 1024 _ _ (λ i h. covers-alike text r (i / 32) (i % 32))
 

@@ -51,7 +51,7 @@ module _ (e : Seen) where
       → after_calls e s frame calls ≡ stands_at (called_on e reply s frame calls).state (called_on e reply s frame calls).frame
   unfolding after_calls called_on
   in_turn_does reply s frame [] = refl
-  in_turn_does reply s frame (call ∷ calls) = in_turn_does _ _ _ calls
+  in_turn_does reply s frame (call ∷ calls) = let k = called e s frame call in in_turn_does k.reply k.state k.frame calls
 
   in_turn_reply : (s : State) (frame : List ℕ) (calls : List Event) → (called_on e 0 s frame calls).reply ≡ last_reply (answers e s frame calls)
   unfolding called_on answers last_reply
@@ -70,7 +70,8 @@ module _ (e : Seen) where
       → (called_on e reply s frame calls).count ≡ sum_of_counts (answers e s frame calls)
   unfolding called_on answers sum_of_counts
   in_turn_count reply s frame [] = refl
-  in_turn_count reply s frame (call ∷ calls) = ap (λ (i : ℕ). (called e s frame call).count + i) (in_turn_count _ _ _ calls)
+  in_turn_count reply s frame (call ∷ calls) =
+      let k = called e s frame call in ap (λ (i : ℕ). k.count + i) (in_turn_count k.reply k.state k.frame calls)
 
 module _ (e : Seen) (r : Recorded) (s : State) (frame : List ℕ) where
   abbrev carried : Called

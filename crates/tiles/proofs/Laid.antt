@@ -7,14 +7,13 @@ use mathlib.Core.List.{List}
 use native.Mathlib.Omega.{arith}
 use native.Mathlib.Nat.{add-zero}
 use lib.ListN.{length, get_or, set}
-use lib.Dec.{eqb, ltb}
+use lib.Dec.{eqb}
 use lib.Bits.{bit_xor}
-use borrow.Author.Tests.{eqb-true, eqb-false, eq-eqb, ltb-true, ltb-false}
+use borrow.Author.Tests.{eqb-true, eqb-false, eq-eqb}
 use Rattle.base.specs.Choice.{if◌then◌else◌}
 use Rattle.base.specs.Lists.{upto}
 use Rattle.base.specs.Painting.{painted, everywhere, between}
 use Rattle.base.specs.Layout.{on, painted_on}
-use Rattle.base.proofs.Choice.{either-told}
 use Rattle.base.proofs.Tests.{alike, and_both, or_either, or_else}
 use Rattle.base.proofs.Lists.{get_or-upto, upto_cong}
 use Rattle.base.proofs.Painting.{painted-named, painted_same, painted_cong, painted-twice, painted_upto, as_long}

@@ -1,5 +1,5 @@
 -- The rows before it, and one row further.
-use Rattle.std.proofs.Common.{◌≡◌, arith, refl, get_or}
+use Rattle.std.proofs.Common.{arith, refl, get_or}
 use Rattle.base.specs.Choice.{if◌then◌else◌}
 use Rattle.base.proofs.Copies.{none_yet}
 use Rattle.glyph.proofs.Tiles.{row-further}
