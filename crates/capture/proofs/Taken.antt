@@ -2,15 +2,12 @@
 -- everything else stays.
 use Prim.Native.Nat.{ℕ, ◌<◌}
 use mathlib.Core.Bool.{Bool, true, false, not, ◌&&◌}
-use mathlib.Core.List.{List, [], ◌∷◌}
-use mathlib.Core.Logic.{inl, inr}
+use mathlib.Core.List.{List, ◌∷◌}
 use mathlib.Core.Path.{◌≡◌, refl, ap, ◌∙◌}
 use native.Mathlib.Omega.{arith}
 use borrow.Author.Tests.{ne_eqb, le-leb, leb-true, leb-false}
 use lib.Dec.{eqb, leb}
 use lib.ListN.{length, get_or}
-use types.Run.{OneOf}
-use denote.Enum.Declared.{tag_of}
 use Rattle.base.specs.Choice.{when◌then◌else◌}
 use Rattle.base.proofs.Choice.{either, by_test}
 use Rattle.capture.specs.declared.Answer.{Answer}
@@ -18,19 +15,11 @@ use Rattle.capture.specs.declared.Answer.TheVariants.{Record, Refused, End}
 use Rattle.capture.specs.Kinds.{last_kind, kind_of, allowed}
 use Rattle.capture.specs.Record.{marked, kind_byte, value_byte, read_first, passed, taken_with}
 use Rattle.capture.proofs.Answers.{judged, four_left, four_are_no_end, Numbered, read-numbered}
-use Rattle.capture.specs.contracts.Answer.{the_type}
 
 pub taken-with-time : (a : Answer) → taken_with true a ≡ a
 taken-with-time (Record kind value) = refl
 taken-with-time (Refused n) = refl
 taken-with-time End = refl
-
--- in the `else` of a `let` that wants a record there is none: the tag is another case's
-pub no_record_taken : (time : Bool) (a : Answer) → OneOf (1 ∷ 2 ∷ []) (tag_of the_type a) → a ≡ taken_with time a
-no_record_taken time (Record kind value) (inl t) = absurd (omega arith)
-no_record_taken time (Record kind value) (inr t) = absurd (omega arith)
-no_record_taken time (Refused n) t = refl
-no_record_taken time End t = refl
 
 refused_no_record : {n kind value : ℕ} → Refused n ≡ Record kind value → ⊥
 refused_no_record h = omega (arith, ap passed h)

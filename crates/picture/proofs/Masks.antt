@@ -1,11 +1,11 @@
 -- Filling, inverting and overlaying by a mask of all ones or none.
 use Prim.Native.Nat.{ℕ, ◌+◌, ◌*◌, ◌-◌, ◌%◌, ◌<◌}
-use mathlib.Core.Path.{◌≡◌, ap, ◌∙◌}
+use mathlib.Core.Path.{◌≡◌}
 use mathlib.Core.Bool.{Bool, true, false}
 use native.Mathlib.Omega.{arith}
-use lib.Bits.{bit_and, bit_or, bit_xor, and_mask, and_zero_r, or_add_and, or_zero_r, xor_add_and, xor_zero_r}
+use lib.Bits.{bit_and, bit_or, bit_xor, and_mask, or_add_and, or_zero_r, xor_add_and, xor_zero_r}
 use Rattle.base.specs.Choice.{when◌then◌else◌}
-use Rattle.picture.specs.Picture.{filled, inverted, overlaid}
+use Rattle.picture.specs.Picture.{filled, inverted}
 
 and_ones : (x : ℕ) → x < 256 → bit_and x 0xFF ≡ x
 and_ones x h = let m : bit_and x 0xFF ≡ x % 256 = and_mask x 8 in omega arith
@@ -25,10 +25,6 @@ xor_ones x h =
 pub mask_inverts : (on : Bool) (x : ℕ) → x < 256 → bit_xor x (when on then 0xFF else 0x00) ≡ inverted on x
 mask_inverts true x h = xor_ones x h
 mask_inverts false x h = xor_zero_r x
-
-pub mask_overlays : (on : Bool) (dots x : ℕ) → dots < 256 → bit_xor x (bit_and dots (when on then 0xFF else 0x00)) ≡ overlaid on dots x
-mask_overlays true dots x h = ap (bit_xor x) (and_ones dots h)
-mask_overlays false dots x h = ap (bit_xor x) (and_zero_r dots) ∙ xor_zero_r x
 
 pub masks_mark : (cursor blink : Bool) (x : ℕ) → x < 256
     → bit_xor (bit_or x (when cursor then 0xFF else 0x00)) (when blink then 0xFF else 0x00) ≡ inverted blink (filled cursor x)
