@@ -11,7 +11,7 @@ use lib.Dec.{eqb, leb}
 use lib.ListN.{length, get_or}
 use types.Run.{OneOf}
 use denote.Enum.Declared.{tag_of}
-use Rattle.base.specs.Choice.{if◌then◌else◌}
+use Rattle.base.specs.Choice.{when◌then◌else◌}
 use Rattle.base.proofs.Choice.{either, by_test}
 use Rattle.capture.specs.declared.Answer.{Answer}
 use Rattle.capture.specs.declared.Answer.TheVariants.{Record, Refused, End}
@@ -67,21 +67,21 @@ module _ (time : Bool) where
 -- the tests of four bytes, by a panel with or without time: 8 is given above its last kind, and before 9
 abbrev pub judged_with : Bool → ℕ → ℕ → ℕ → ℕ → Answer
 judged_with time first second kind value =
-    if not (marked first second) then Refused 7
-    else if not (leb kind (last_kind time)) then Refused 8
-    else if not (allowed (kind_of kind) value) then Refused 9
+    when not (marked first second) then Refused 7
+    else when not (leb kind (last_kind time)) then Refused 8
+    else when not (allowed (kind_of kind) value) then Refused 9
     else Record kind value
 
 below_seven :
     (t : Bool) (kind value : ℕ)
     → kind < 7
-    → taken_with false (if not t then Refused 9 else Record kind value) ≡ (if not t then Refused 9 else Record kind value)
+    → taken_with false (when not t then Refused 9 else Record kind value) ≡ (when not t then Refused 9 else Record kind value)
 below_seven false kind value h = refl
 below_seven true kind value h = rw (ne_eqb kind 7 (λ e. omega arith))
 
 -- 7 takes every value
 seven_itself :
-    (kind value : ℕ) → kind ≡ 7 → taken_with false (if not (allowed (kind_of kind) value) then Refused 9 else Record kind value) ≡ Refused 8
+    (kind value : ℕ) → kind ≡ 7 → taken_with false (when not (allowed (kind_of kind) value) then Refused 9 else Record kind value) ≡ Refused 8
 unfolding kind_of
 seven_itself kind value h = rw h
 

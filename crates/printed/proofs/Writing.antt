@@ -9,7 +9,7 @@ use borrow.Author.Tests.{lt-ltb, le-ltb, eq-eqb, ne_eqb}
 use lib.Dec.{eqb, ltb}
 use lib.ListN.{length, set, length-append}
 use lib.Seq.{sets, length-sets, length-take-le}
-use Rattle.base.specs.Choice.{if◌then◌else◌}
+use Rattle.base.specs.Choice.{when◌then◌else◌}
 use Rattle.base.proofs.Choice.{either}
 use Rattle.base.proofs.Lists.{sets_append}
 use Rattle.printed.specs.Text.{RecordAnswer, digit, decimal, shown, one_byte, four_bytes, middle, line, end_line, stop_line, last_line, Put, begun_with, begun_as, Counts}
@@ -51,7 +51,7 @@ one-more-digit : (most n k : ℕ) → length (decimal most (n / 10)) ≤ k → l
 unfolding decimal
 one-more-digit most n k h = behind (ltb n 10) (decimal most (n / 10)) h
   where
-    behind : (t : Bool) (l : List ℕ) → length l ≤ k → length ((if t then [] else l) ++ ((0x30 + n % 10) ∷ [])) ≤ suc k
+    behind : (t : Bool) (l : List ℕ) → length l ≤ k → length ((when t then [] else l) ++ ((0x30 + n % 10) ∷ [])) ≤ suc k
     behind true l h = omega arith
     behind false l h = omega (arith, length-append l ((0x30 + n % 10) ∷ []))
 
