@@ -7,7 +7,7 @@ use native.Mathlib.Omega.{arith}
 use native.Mathlib.Nat.{suc-mul, zero-mul, add-suc, add-zero}
 use lib.Dec.{eqb}
 use borrow.Author.Tests.{eqb-true, eqb-false, ne_eqb}
-use Rattle.base.specs.Choice.{if◌then◌else◌}
+use Rattle.base.specs.Choice.{when◌then◌else◌}
 use Rattle.base.specs.Painting.{count}
 
 pub count_cong : (n : ℕ) (P Q : ℕ → Bool) → ((i : ℕ) → i < n → P i ≡ Q i) → count n P ≡ count n Q
@@ -30,7 +30,7 @@ unfolding count
 count-one zero a h = absurd (omega arith)
 count-one (suc n) a h = last (eqb n a) refl (count-one n a)
   where
-    last : (t : Bool) → eqb n a ≡ t → (a < n → count n (λ i. eqb i a) ≡ 1) → count n (λ i. eqb i a) + (if t then 1 else 0) ≡ 1
+    last : (t : Bool) → eqb n a ≡ t → (a < n → count n (λ i. eqb i a) ≡ 1) → count n (λ i. eqb i a) + (when t then 1 else 0) ≡ 1
     last true e r = rw (count_none n (λ i. eqb i a) (λ i l. ne_eqb i a (let q = eqb-true n a e in omega arith)))
     last false e r = let q : n ≢ a = eqb-false n a e in rw (r (omega arith))
 
@@ -42,7 +42,7 @@ count_disjoint zero P Q e = refl
 count_disjoint (suc n) P Q e = last (P n) (Q n) (e n (omega arith)) (count_disjoint n P Q (λ i h. e i (omega arith)))
   where
     last : (p q : Bool) → (p && q) ≡ false → count n (λ i. P i || Q i) ≡ count n P + count n Q
-        → count n (λ i. P i || Q i) + (if p || q then 1 else 0) ≡ (count n P + (if p then 1 else 0)) + (count n Q + (if q then 1 else 0))
+        → count n (λ i. P i || Q i) + (when p || q then 1 else 0) ≡ (count n P + (when p then 1 else 0)) + (count n Q + (when q then 1 else 0))
     last true true d h = absurd (true≢false d)
     last true false d h = omega arith
     last false true d h = omega arith
@@ -55,13 +55,13 @@ count_or_le zero P Q = omega arith
 count_or_le (suc n) P Q = last (P n) (Q n) (count_or_le n P Q)
   where
     last : (p q : Bool) → count n (λ i. P i || Q i) ≤ count n P + count n Q
-        → count n (λ i. P i || Q i) + (if p || q then 1 else 0) ≤ (count n P + (if p then 1 else 0)) + (count n Q + (if q then 1 else 0))
+        → count n (λ i. P i || Q i) + (when p || q then 1 else 0) ≤ (count n P + (when p then 1 else 0)) + (count n Q + (when q then 1 else 0))
     last true true l = omega arith
     last true false l = omega arith
     last false true l = omega arith
     last false false l = omega arith
 
-one_more : (t : Bool) {x k : ℕ} → (t ≡ true → x + 1 ≤ k) → x ≤ k → x + (if t then 1 else 0) ≤ k
+one_more : (t : Bool) {x k : ℕ} → (t ≡ true → x + 1 ≤ k) → x ≤ k → x + (when t then 1 else 0) ≤ k
 one_more true h l = h refl
 one_more false h l = omega arith
 
@@ -104,7 +104,7 @@ count_grid (suc n) b m P Q h k =
     (row (Q n) (h n (omega arith)) (k n (omega arith)) (count_grid n b m P Q (λ r l. h r (omega arith)) (λ r l. k r (omega arith))))
   where
     row : (q : Bool) → (q ≡ true → count b (λ c. P (n * b + c)) ≤ m) → (q ≡ false → count b (λ c. P (n * b + c)) ≡ 0)
-        → count (n * b) P ≤ m * count n Q → count (n * b) P + count b (λ c. P (n * b + c)) ≤ m * (count n Q + (if q then 1 else 0))
+        → count (n * b) P ≤ m * count n Q → count (n * b) P + count b (λ c. P (n * b + c)) ≤ m * (count n Q + (when q then 1 else 0))
     row true x y l = omega (arith, x refl)
     row false x y l = omega (arith, y refl)
 

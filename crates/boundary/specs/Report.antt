@@ -1,6 +1,6 @@
 -- What `zifqarell_replay` leaves: a fresh panel replays a capture, and where that stopped is told in bytes.
 use Rattle.std.specs.Prelude.{ℕ, List, eqb}
-use Rattle.base.specs.Choice.{if◌then◌else◌}
+use Rattle.base.specs.Choice.{when◌then◌else◌}
 use Rattle.events.specs.declared.Made.{Made}
 use Rattle.picture.specs.Picture.{Seen}
 use Rattle.picture.specs.Refusals.{lent_refusal}
@@ -24,6 +24,6 @@ reported s = report s.ending.number s.ending.frame (state_bytes s.ending.state) 
 -- refused with 1, 2, 3 as a call, which leaves all that it was lent; else a fresh panel replays, and where that stopped is told
 unfoldable pub fresh_replay : Made → Seen → List ℕ → List ℕ → List ℕ → List ℕ → Report
 fresh_replay made e capture frame state last =
-    if eqb (lent_refusal e frame) 0
+    when eqb (lent_refusal e frame) 0
     then reported (replayed_silently e capture (fresh_state made) frame)
     else report (lent_refusal e frame) frame state last

@@ -22,7 +22,6 @@ use spelling::{last_bytes, spell_state};
 use unpacking::unpack;
 
 // Draws the picture of a state into the frame, and answers 0 or the refusal's number.
-#[tactic(auto, unfolding(picture::specs::Refusals::drawn, state_bytes::specs::Packed::unpacked))]
 pub fn zifqarell_draw(
     text: &[u8; 128],
     glyph: &[u8; 128],
@@ -40,7 +39,6 @@ pub fn zifqarell_draw(
 }
 
 // Puts the three bytes that carry a write over the serial link into the buffer, and answers 0 or the refusal's number.
-#[tactic(auto, unfolding(sender::specs::Sender::sent))]
 pub fn zifqarell_send(register: bool, byte: u8, buffer: &mut [u8]) -> u8
     ensures { leaving result buffer.new ≡ sent register byte buffer.old }
 {

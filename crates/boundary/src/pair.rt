@@ -7,7 +7,6 @@ ghost use Rattle.pair_bytes.specs.Report.{side_bytes, pair_report, pair_reported
 // A clock of the wire comes to two panels that the caller keeps as bytes: the bit, and both selects. Answers the refusal number in bits
 // 7..0, the left panel's count in bits 19..8 and the right's in bits 31..20. Refused it leaves all that it was lent. A panel's five parts are
 // those of the 2,341 bytes that `zifqarell_replay` leaves, from 0, 128, 256, 2304 and 2331 on. All that is written lies apart.
-#[tactic(auto, unfolding(pair_bytes::specs::Report::pair_reported))]
 pub fn zifqarell_pair_bit(
     left_text: &mut [u8; 128],
     left_glyph: &mut [u8; 128],

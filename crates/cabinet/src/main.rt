@@ -159,6 +159,10 @@ fn hear_all(
     }
 }
 
+fn count(rt: &HostRuntime, clocks: u64) -> io::Result<()> {
+    println!(rt; "{clocks} clocks")
+}
+
 // Both glasses, and how many clocks there were.
 fn show_both(
     rt: &HostRuntime,
@@ -168,7 +172,7 @@ fn show_both(
 ) -> io::Result<()> {
     show(rt, b"left\n", left_frame)?;
     show(rt, b"right\n", right_frame)?;
-    println!(rt; "{clocks} clocks")
+    count(rt, clocks)
 }
 
 // How the program ends: 1 where something has failed, which has been said.

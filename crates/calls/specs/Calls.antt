@@ -1,6 +1,6 @@
 -- Document 01, "Refusal numbers": each call whole, with its refusals, its answer, and what it leaves in the state and the frame.
 use Rattle.std.specs.Prelude.{ℕ, Bool, false, not, List, [], ◌∷◌, ◌≡◌, length, eqb}
-use Rattle.base.specs.Choice.{if◌then◌else◌}
+use Rattle.base.specs.Choice.{when◌then◌else◌}
 use Rattle.controller.specs.declared.Control.{Control}
 use Rattle.controller.specs.Memories.{Memories}
 use Rattle.deeds.specs.Transfers.{Acted, performed}
@@ -67,12 +67,12 @@ timeless c (Pass eights) = not c.time.timed
 
 abbrev pub unless_timeless : Seen → State → List ℕ → Event → Called
 unless_timeless e s frame event =
-    if timeless s.control event then refused s frame 8 else unless_other e s frame (taken_on s event)
+    when timeless s.control event then refused s frame 8 else unless_other e s frame (taken_on s event)
 
 -- a call: refusals 1, 2, 3 in their order, then 8, then 5
 unfoldable pub called : Seen → State → List ℕ → Event → Called
 called e s frame event =
-    if eqb (lent_refusal e frame) 0
+    when eqb (lent_refusal e frame) 0
     then unless_timeless e s frame event
     else refused s frame (lent_refusal e frame)
 

@@ -7,7 +7,7 @@ use native.Mathlib.Omega.{arith}
 use borrow.Author.Tests.{eq-eqb, ne_eqb, le-leb, lt-leb}
 use lib.Dec.{eqb, leb}
 use lib.ListN.{length, get_or}
-use Rattle.base.specs.Choice.{if◌then◌else◌}
+use Rattle.base.specs.Choice.{when◌then◌else◌}
 use Rattle.base.proofs.Choice.{either}
 use Rattle.capture.specs.declared.Answer.{Answer}
 use Rattle.capture.specs.declared.Answer.TheVariants.{Record, Refused, End}
@@ -25,9 +25,9 @@ one_to_three_left c h l = simp (ne_eqb (length c) 0 h, le-leb (length c) 3 l)
 -- the tests of four bytes
 abbrev pub judged : ℕ → ℕ → ℕ → ℕ → Answer
 judged first second kind value =
-    if not (marked first second) then Refused 7
-    else if not (known kind) then Refused 8
-    else if not (allowed (kind_of kind) value) then Refused 9
+    when not (marked first second) then Refused 7
+    else when not (known kind) then Refused 8
+    else when not (allowed (kind_of kind) value) then Refused 9
     else Record kind value
 
 pub four_left : (c : List ℕ) → 3 < length c → read_first c ≡ judged (get_or c 0 0) (get_or c 1 0) (get_or c 2 0) (get_or c 3 0)
@@ -47,7 +47,7 @@ answer_of_front (a ∷ b ∷ d ∷ e ∷ s) t h = first_four_decide a b d e (s +
 
 judged_no_end :
     (t₁ t₂ t₃ : Bool) (kind value : ℕ)
-    → (if not t₁ then Refused 7 else if not t₂ then Refused 8 else if not t₃ then Refused 9 else Record kind value) ≡ End
+    → (when not t₁ then Refused 7 else when not t₂ then Refused 8 else when not t₃ then Refused 9 else Record kind value) ≡ End
     → ⊥
 judged_no_end false t₂ t₃ kind value h = let z : ◌≡◌ {A = ℕ} 0 1 = cc in omega arith
 judged_no_end true false t₃ kind value h = let z : ◌≡◌ {A = ℕ} 0 1 = cc in omega arith
@@ -97,7 +97,7 @@ read-numbered c =
 
 -- the answer that has a number and values
 told : ℕ → List ℕ → Answer
-told n [] = if eqb n 0 then End else Refused n
+told n [] = when eqb n 0 then End else Refused n
 told n (kind ∷ []) = End
 told n (kind ∷ value ∷ []) = Record kind value
 told n (kind ∷ value ∷ more ∷ l) = End

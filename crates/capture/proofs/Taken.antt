@@ -2,35 +2,24 @@
 -- everything else stays.
 use Prim.Native.Nat.{ℕ, ◌<◌}
 use mathlib.Core.Bool.{Bool, true, false, not, ◌&&◌}
-use mathlib.Core.List.{List, [], ◌∷◌}
-use mathlib.Core.Logic.{inl, inr}
+use mathlib.Core.List.{List, ◌∷◌}
 use mathlib.Core.Path.{◌≡◌, refl, ap, ◌∙◌}
 use native.Mathlib.Omega.{arith}
 use borrow.Author.Tests.{ne_eqb, le-leb, leb-true, leb-false}
 use lib.Dec.{eqb, leb}
 use lib.ListN.{length, get_or}
-use types.Run.{OneOf}
-use denote.Enum.Declared.{tag_of}
-use Rattle.base.specs.Choice.{if◌then◌else◌}
+use Rattle.base.specs.Choice.{when◌then◌else◌}
 use Rattle.base.proofs.Choice.{either, by_test}
 use Rattle.capture.specs.declared.Answer.{Answer}
 use Rattle.capture.specs.declared.Answer.TheVariants.{Record, Refused, End}
 use Rattle.capture.specs.Kinds.{last_kind, kind_of, allowed}
 use Rattle.capture.specs.Record.{marked, kind_byte, value_byte, read_first, passed, taken_with}
 use Rattle.capture.proofs.Answers.{judged, four_left, four_are_no_end, Numbered, read-numbered}
-use Rattle.capture.specs.contracts.Answer.{the_type}
 
 pub taken-with-time : (a : Answer) → taken_with true a ≡ a
 taken-with-time (Record kind value) = refl
 taken-with-time (Refused n) = refl
 taken-with-time End = refl
-
--- in the `else` of a `let` that wants a record there is none: the tag is another case's
-pub no_record_taken : (time : Bool) (a : Answer) → OneOf (1 ∷ 2 ∷ []) (tag_of the_type a) → a ≡ taken_with time a
-no_record_taken time (Record kind value) (inl t) = absurd (omega arith)
-no_record_taken time (Record kind value) (inr t) = absurd (omega arith)
-no_record_taken time (Refused n) t = refl
-no_record_taken time End t = refl
 
 refused_no_record : {n kind value : ℕ} → Refused n ≡ Record kind value → ⊥
 refused_no_record h = omega (arith, ap passed h)
@@ -67,21 +56,21 @@ module _ (time : Bool) where
 -- the tests of four bytes, by a panel with or without time: 8 is given above its last kind, and before 9
 abbrev pub judged_with : Bool → ℕ → ℕ → ℕ → ℕ → Answer
 judged_with time first second kind value =
-    if not (marked first second) then Refused 7
-    else if not (leb kind (last_kind time)) then Refused 8
-    else if not (allowed (kind_of kind) value) then Refused 9
+    when not (marked first second) then Refused 7
+    else when not (leb kind (last_kind time)) then Refused 8
+    else when not (allowed (kind_of kind) value) then Refused 9
     else Record kind value
 
 below_seven :
     (t : Bool) (kind value : ℕ)
     → kind < 7
-    → taken_with false (if not t then Refused 9 else Record kind value) ≡ (if not t then Refused 9 else Record kind value)
+    → taken_with false (when not t then Refused 9 else Record kind value) ≡ (when not t then Refused 9 else Record kind value)
 below_seven false kind value h = refl
 below_seven true kind value h = rw (ne_eqb kind 7 (λ e. omega arith))
 
 -- 7 takes every value
 seven_itself :
-    (kind value : ℕ) → kind ≡ 7 → taken_with false (if not (allowed (kind_of kind) value) then Refused 9 else Record kind value) ≡ Refused 8
+    (kind value : ℕ) → kind ≡ 7 → taken_with false (when not (allowed (kind_of kind) value) then Refused 9 else Record kind value) ≡ Refused 8
 unfolding kind_of
 seven_itself kind value h = rw h
 

@@ -1,6 +1,6 @@
 -- Document 01, "Captures" and refusals 6 to 9: the record at the beginning of a capture.
 use Rattle.std.specs.Prelude.{ℕ, Bool, not, ◌&&◌, List, [], ◌∷◌, eqb, leb, length, get_or}
-use Rattle.base.specs.Choice.{if◌then◌else◌}
+use Rattle.base.specs.Choice.{when◌then◌else◌}
 use Rattle.capture.specs.declared.Answer.{Answer}
 use Rattle.capture.specs.declared.Answer.TheVariants.{Record, Refused, End}
 use Rattle.capture.specs.Kinds.{known, kind_of, allowed}
@@ -19,11 +19,11 @@ value_byte c = get_or c 3 0
 -- wrong; 8: kind above 7; 9: value not allowed), else a record. Kind 7 is turned down behind it where the panel has no time
 unfoldable pub read_first : List ℕ → Answer
 read_first c =
-    if eqb (length c) 0 then End
-    else if leb (length c) 3 then Refused 6
-    else if not (marked (get_or c 0 0) (get_or c 1 0)) then Refused 7
-    else if not (known (kind_byte c)) then Refused 8
-    else if not (allowed (kind_of (kind_byte c)) (value_byte c)) then Refused 9
+    when eqb (length c) 0 then End
+    else when leb (length c) 3 then Refused 6
+    else when not (marked (get_or c 0 0) (get_or c 1 0)) then Refused 7
+    else when not (known (kind_byte c)) then Refused 8
+    else when not (allowed (kind_of (kind_byte c)) (value_byte c)) then Refused 9
     else Record (kind_byte c) (value_byte c)
 
 -- a refusal's number; a record and the end have number 0
@@ -46,6 +46,6 @@ passed End = 0
 
 -- request K1: what an answer is to a panel with or without time; without time kind 7 is still refused with 8
 abbrev pub taken_with : Bool → Answer → Answer
-taken_with time (Record kind value) = if not time && eqb kind 7 then Refused 8 else Record kind value
+taken_with time (Record kind value) = when not time && eqb kind 7 then Refused 8 else Record kind value
 taken_with time (Refused n) = Refused n
 taken_with time End = End

@@ -8,7 +8,7 @@ use lib.Dec.{ltb}
 use lib.ListN.{length}
 use native.Mathlib.Omega.{arith}
 use borrow.Author.Tests.{ltb-false}
-use Rattle.base.specs.Choice.{if◌then◌else◌}
+use Rattle.base.specs.Choice.{when◌then◌else◌}
 use Rattle.serial.specs.declared.Header.TheVariants.{Begun, WithRead, WithRegister}
 use Rattle.serial.specs.declared.Sync.{Sync}
 use Rattle.serial.specs.declared.Sync.TheVariants.{Lost, Body}
@@ -44,7 +44,7 @@ unfolding counted
 counted-near run false sync = omega arith
 counted-near run true sync = go (ltb run 4)
   where
-    go : (t : Bool) → left sync ≤ near (if t then Outside (run + 1) sync else Inside Begun)
+    go : (t : Bool) → left sync ≤ near (when t then Outside (run + 1) sync else Inside Begun)
     go true = omega arith
     go false = left-most sync
 
@@ -53,7 +53,7 @@ unfolding body_bit
 one-falls Lost = omega arith
 one-falls (Body register seen byte) = go (data_next seen)
   where
-    go : (d : Bool) → 16 - seen ≤ suc (left (if d then Body register (seen + 1) (pushed byte true) else Lost))
+    go : (d : Bool) → 16 - seen ≤ suc (left (when d then Body register (seen + 1) (pushed byte true) else Lost))
     go true = omega arith
     go false = omega arith
 
@@ -65,11 +65,11 @@ zero-falls (Body register seen byte) = go (data_next seen) (ltb seen 15) refl
     go : (d l : Bool) → ltb seen 15 ≡ l →
         Falls (16 - seen)
         (Outside 0 (
-        if d then Body register (seen + 1) (pushed byte false)
-        else if l then Body register (seen + 1) byte
+        when d then Body register (seen + 1) (pushed byte false)
+        else when l then Body register (seen + 1) byte
         else Body register 0 0
         ))
-        (if d then Nothing else if l then Nothing else Byte register byte)
+        (when d then Nothing else when l then Nothing else Byte register byte)
     go true l e = omega arith
     go false true e = omega arith
     go false false e = (omega (arith, ltb-false seen 15 e), refl)

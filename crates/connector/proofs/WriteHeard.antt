@@ -5,7 +5,7 @@ use mathlib.Core.Bool.{Bool, true, false}
 use mathlib.Core.List.{List, [], ◌∷◌, ◌++◌}
 use lib.ListN.{replicate}
 use native.Mathlib.Omega.{arith}
-use Rattle.base.specs.Choice.{if◌then◌else◌}
+use Rattle.base.specs.Choice.{when◌then◌else◌}
 use Rattle.base.specs.Bits.{bit, bits7_4, bits3_0, raised}
 use Rattle.base.proofs.Below.{below, ◌&◌}
 use Rattle.serial.specs.declared.Sync.{Sync}
@@ -64,7 +64,7 @@ lower_heard register byte =
 
 -- a bit as a number
 abbrev one : Bool → ℕ
-one b = if b then 1 else 0
+one b = when b then 1 else 0
 
 Sum : ℕ → Type 0
 Sum half = one (bit 3 half) * 8 + one (bit 2 half) * 4 + one (bit 1 half) * 2 + one (bit 0 half) ≡ half

@@ -1,5 +1,4 @@
 -- What the ranges say of the counter, whatever the target; and of the row and the counter of the graphic memory.
-use mathlib.Core.Path.{◌≡◌, subst}
 use Prim.Native.Nat.{ℕ, ◌<◌}
 use native.Mathlib.Omega.{arith}
 use Rattle.table.specs.declared.Target.{Target}
@@ -14,6 +13,3 @@ limit_64 Graphic h = omega arith
 
 pub counter_64 : (c : Control) → InRange c → c.place.counter < 64
 counter_64 c r = limit_64 c.place.target r.counter
-
-pub graphic_in_range : (c : Control) → InRange c → c.place.target ≡ Graphic → (c.place.row < 64) × (c.place.counter < 16)
-graphic_in_range c r e = (r.row, subst (λ (t : Target). c.place.counter < limit t) e r.counter)

@@ -1,6 +1,6 @@
 -- Document 01, "Instructions": where data transfers go, and how place and view move on.
 use Rattle.std.specs.Prelude.{ℕ, ◌+◌, ◌%◌, Bool, true, false, not, ◌&&◌, get_or, set}
-use Rattle.base.specs.Choice.{if◌then◌else◌}
+use Rattle.base.specs.Choice.{when◌then◌else◌}
 use Rattle.table.specs.declared.Target.{Target}
 use Rattle.table.specs.declared.Target.TheVariants.{Text, Glyph, Graphic}
 use Rattle.controller.specs.declared.Waiting.TheVariants.{Nothing}
@@ -34,7 +34,7 @@ next_counter Graphic id k = (k + 1) % 16
 
 -- after the low half, step
 abbrev pub counter_after : Bool → Place → ℕ
-counter_after id p = if p.low then next_counter p.target id p.counter else p.counter
+counter_after id p = when p.low then next_counter p.target id p.counter else p.counter
 
 -- the other half comes next, in the same row; a data transfer drops the waiting row, and a write leaves the mark
 unfoldable pub moved : Bool → Place → Place
@@ -59,7 +59,7 @@ shifts c = completes c.place && c.entry.s
 -- a write, or a read that is no dummy, moves on; when a text word completes with S = 1, the display shifts left (I/D = 1) or right
 unfoldable pub moved_on : Control → Control
 moved_on c =
-    with_view (if shifts c then display_moved (not c.entry.id) c.view else c.view)
+    with_view (when shifts c then display_moved (not c.entry.id) c.view else c.view)
     (with_place (moved c.entry.id c.place) c)
 
 -- a dummy read: the mark is cleared, and nothing moves; like every data transfer it drops the waiting row

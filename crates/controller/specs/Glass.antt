@@ -1,7 +1,7 @@
 -- Document 01, "The picture": which memory row, text word and image each part of the glass shows.
 -- The glass has 32 rows of 32 bytes, counted from the top left; cell k is bytes 2k and 2k + 1 of a row.
 use Rattle.std.specs.Prelude.{ℕ, ◌+◌, ◌*◌, ◌/◌, ◌%◌, Bool, true, false, ◌&&◌, List, get_or, eqb, leb}
-use Rattle.base.specs.Choice.{if◌then◌else◌}
+use Rattle.base.specs.Choice.{when◌then◌else◌}
 use Rattle.controller.specs.declared.Image.{Image}
 use Rattle.controller.specs.declared.Image.TheVariants.{Nothing, Number}
 use Rattle.controller.specs.declared.View.{View}
@@ -21,7 +21,7 @@ shown_word v r k = 16 * (shown_row v r / 16) + (k + v.shift) % 16
 
 -- word 0000h..000Fh: image (low byte / 2) mod 4
 unfoldable pub image_of : ℕ → ℕ → Image
-image_of high low = if eqb high 0x00 && leb low 0x0F then Number (low / 2 % 4) else Nothing
+image_of high low = when eqb high 0x00 && leb low 0x0F then Number (low / 2 % 4) else Nothing
 
 -- the image of a text word, or none
 unfoldable pub word_image : List ℕ → ℕ → Image

@@ -1,6 +1,6 @@
 -- Document 01, "Instructions": what each entry of the table does to the controls, and to text memory.
 use Rattle.std.specs.Prelude.{ℕ, ◌+◌, ◌%◌, Bool, true, false, not, List, get_or, set, replicate}
-use Rattle.base.specs.Choice.{if◌then◌else◌}
+use Rattle.base.specs.Choice.{when◌then◌else◌}
 use Rattle.base.specs.Bits.{bits5_0, bits3_0, bits1_0}
 use Rattle.events.specs.declared.Numbering.{Numbering}
 use Rattle.table.specs.declared.Target.{Target}
@@ -64,7 +64,7 @@ graphic_addressed (Row y) p a = pointed Graphic (bits3_0 a) y
 
 -- the counter one to the right or to the left, modulo 64
 abbrev pub stepped : Bool → ℕ → ℕ
-stepped right k = if right then (k + 1) % 64 else (k + 63) % 64
+stepped right k = when right then (k + 1) % 64 else (k + 63) % 64
 
 -- the view with one part put in
 abbrev pub with_scroll : ℕ → View → View
@@ -82,7 +82,7 @@ with_numbering n v = record { scroll = v.scroll; shift = v.shift; reversed = v.r
 
 -- display left adds 1 to the shift modulo 16, right subtracts 1
 abbrev pub display_moved : Bool → View → View
-display_moved right v = with_shift (if right then (v.shift + 15) % 16 else (v.shift + 1) % 16) v
+display_moved right v = with_shift (when right then (v.shift + 15) % 16 else (v.shift + 1) % 16) v
 
 -- home: target text, counter 0, shift 0
 abbrev pub home : Control → Control

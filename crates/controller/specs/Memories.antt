@@ -1,7 +1,7 @@
 -- Document 01, "Memories and flags": the three memories. Text memory is 64 words of 16 bits, four lines of 16; glyph memory 64 words,
 -- four images of 16 rows; graphic memory 64 rows of 16 words. Each is a list of bytes, high byte first.
 use Rattle.std.specs.Prelude.{ℕ, ◌+◌, ◌*◌, Bool, List, replicate}
-use Rattle.base.specs.Choice.{if◌then◌else◌}
+use Rattle.base.specs.Choice.{when◌then◌else◌}
 
 pub record Memories : Type 0 where
   pub text : List ℕ
@@ -10,7 +10,7 @@ pub record Memories : Type 0 where
 
 -- the half of a word, as a number of bytes into it
 abbrev pub half : Bool → ℕ
-half low = if low then 1 else 0
+half low = when low then 1 else 0
 
 -- where a half of a text or glyph word lies
 abbrev pub word_place : ℕ → Bool → ℕ

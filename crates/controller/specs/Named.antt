@@ -1,6 +1,6 @@
 -- Document 01, "Bytes named for repaint": which region each transfer names, and which bytes a region has.
 use Rattle.std.specs.Prelude.{ℕ, ◌+◌, ◌*◌, ◌/◌, ◌%◌, Bool, true, false, not, ◌&&◌, ◌||◌, List, eqb}
-use Rattle.base.specs.Choice.{if◌then◌else◌}
+use Rattle.base.specs.Choice.{when◌then◌else◌}
 use Rattle.table.specs.declared.Target.{Target}
 use Rattle.table.specs.declared.Target.TheVariants.{Text, Glyph, Graphic}
 use Rattle.table.specs.declared.Touch.{Touch}
@@ -28,7 +28,7 @@ in_some_cell v (Word word) row column = in_cell v word row column
 
 -- the counter's cell, where target is text
 abbrev pub counter_cell : Place → Cell
-counter_cell p = if is_text p.target then Word p.counter else Nowhere
+counter_cell p = when is_text p.target then Word p.counter else Nowhere
 
 -- the counter's cell before and after, each where target is text
 abbrev pub both_cells : Place → Place → Region
@@ -48,11 +48,11 @@ touch_names touch.AllAndText before after = Whole
 -- an instruction, from the controls before and after it: all 1,024 where it ends standby; else by what it touches
 unfoldable pub instruction_names : Control → Control → Touch → Region
 instruction_names before after t =
-    if before.standby && not after.standby then Whole else touch_names t before.place after.place
+    when before.standby && not after.standby then Whole else touch_names t before.place after.place
 
 -- the word's cell and, if the counter steps, the new word's cell
 abbrev pub text_names : Place → Place → Region
-text_names before after = Cells (Word before.counter) (if before.low then Word after.counter else Nowhere)
+text_names before after = Cells (Word before.counter) (when before.low then Word after.counter else Nowhere)
 
 -- text write: cells; glyph write: each byte showing that half of that image row; graphic write: its byte
 abbrev pub write_by_target : Target → Place → Place → Region
@@ -63,13 +63,13 @@ write_by_target Graphic before after = GraphicHalf before.row before.counter bef
 -- a data write, from the controls before and after it: all 1,024 where a text word completes with S = 1
 unfoldable pub write_names : Control → Control → Region
 write_names before after =
-    if shifts before then Whole else write_by_target before.place.target before.place after.place
+    when shifts before then Whole else write_by_target before.place.target before.place after.place
 
 -- a data read that is no dummy: all 1,024 where a text word completes with S = 1; a text read that steps, both cells
 unfoldable pub read_names : Control → Control → Region
 read_names before after =
-    if shifts before then Whole
-    else if completes before.place then both_cells before.place after.place
+    when shifts before then Whole
+    else when completes before.place then both_cells before.place after.place
     else Nothing
 
 -- the graphic byte, if visible

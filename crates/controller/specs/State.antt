@@ -1,7 +1,7 @@
 -- Document 01, "Memories and flags", and requests K1 and K3: everything but the memories and the link. What it is when fresh, and the ranges it keeps to.
 use Rattle.std.specs.Prelude.{ℕ, ◌<◌, ◌≤◌, Bool, true, false, ◌≡◌, length, replicate}
 use Prim.{Unit}
-use Rattle.base.specs.Choice.{if◌then◌else◌}
+use Rattle.base.specs.Choice.{when◌then◌else◌}
 use Rattle.events.specs.declared.Made.{Made}
 use Rattle.events.specs.declared.Pin.{Pin}
 use Rattle.events.specs.declared.Numbering.{Numbering}
@@ -43,7 +43,7 @@ remade c pin = record { parallel = pin.parallel; time = c.time.timed; numbering 
 
 -- a bit that chooses the numbering: 0 the old one, 1 the new
 abbrev pub numbering_of : Bool → Numbering
-numbering_of bit = if bit then By160 else By96
+numbering_of bit = when bit then By160 else By96
 
 -- the counter has 6 bits for text and glyph memory, 4 for graphic memory
 abbrev pub limit : Target → ℕ
@@ -57,7 +57,7 @@ RowInRange (Row y) = y < 64
 
 -- the most microseconds that remain: those of a clear, or none where there is no time
 abbrev pub longest : Bool → ℕ
-longest timed = if timed then 1600 else 0
+longest timed = when timed then 1600 else 0
 
 -- the controls lie within these ranges
 pub record InRange (c : Control) : Type 0 where

@@ -6,7 +6,7 @@ use mathlib.Core.List.{List}
 use native.Mathlib.Omega.{arith}
 use lib.Dec.{ltb}
 use lib.ListN.{length, length-set}
-use Rattle.base.specs.Choice.{if◌then◌else◌}
+use Rattle.base.specs.Choice.{when◌then◌else◌}
 use Rattle.base.proofs.Choice.{either}
 use Rattle.table.specs.declared.Target.{Target}
 use Rattle.table.specs.declared.Target.TheVariants.{Text, Glyph, Graphic}
@@ -269,7 +269,7 @@ cost-most c Read = omega arith
 charged_in : (n : ℕ) (t : Time) → n ≤ 1600 → TimeIn t → TimeIn (charged n t)
 charged_in n t most h = by t.timed (ltb 0 n) h
   where
-    by : (timed costs : Bool) → t.remaining ≤ longest timed → (if timed && costs then n else t.remaining) ≤ longest timed
+    by : (timed costs : Bool) → t.remaining ≤ longest timed → (when timed && costs then n else t.remaining) ≤ longest timed
     by true true h = most
     by true false h = h
     by false costs h = h

@@ -5,7 +5,7 @@ use mathlib.Core.Bool.{Bool, false, ◌&&◌}
 use mathlib.Core.Path.{◌≡◌, refl, ap, subst, ◌∙◌}
 use native.Mathlib.Omega.{arith}
 use lib.Dec.{ltb}
-use Rattle.base.specs.Choice.{if◌then◌else◌}
+use Rattle.base.specs.Choice.{when◌then◌else◌}
 use Rattle.base.proofs.Choice.{either}
 use Rattle.table.specs.Table.{said}
 use Rattle.events.specs.declared.Transfer.{Transfer}
@@ -55,7 +55,7 @@ pub unlost_acted :
     → lost c t ≡ false
     → on_time m c t ≡ carried_out_at_cost m c t
 unfolding on_time
-unlost_acted m c t h = ap (λ (b : Bool). if b then acted m (nothing_done c) else carried_out_at_cost m c t) h
+unlost_acted m c t h = ap (λ (b : Bool). when b then acted m (nothing_done c) else carried_out_at_cost m c t) h
 
 -- without time
 
@@ -65,7 +65,7 @@ not-busy c r e =
     ap (ltb 0) none
 
 pub uncharged : (n : ℕ) (t : Time) → t.timed ≡ false → charged n t ≡ t
-uncharged n t e = ap (λ (b : Bool). record { timed = t.timed; remaining = if b && ltb 0 n then n else t.remaining }) e
+uncharged n t e = ap (λ (b : Bool). record { timed = t.timed; remaining = when b && ltb 0 n then n else t.remaining }) e
 
 costs-nothing : (n : ℕ) (d : Done) → d.control.time.timed ≡ false → at_cost n d ≡ d
 costs-nothing n d e =

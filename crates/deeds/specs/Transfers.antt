@@ -1,6 +1,6 @@
 -- Document 01, "Instructions", and request K1: each transfer whole, with what it leaves in the memories and the controls, its reply, and what it names.
 use Rattle.std.specs.Prelude.{ℕ, ◌+◌}
-use Rattle.base.specs.Choice.{if◌then◌else◌}
+use Rattle.base.specs.Choice.{when◌then◌else◌}
 use Rattle.table.specs.Table.{said}
 use Rattle.table.specs.Touches.{touches}
 use Rattle.table.specs.declared.Instruction.{Instruction}
@@ -46,7 +46,7 @@ written m c b =
 -- a data read: if a dummy is due, answer 0; otherwise answer the next half and move as a write does
 unfoldable pub read_out : Memories → Control → Done
 read_out m c =
-    if c.place.dummy then record { control = dummy_read c; reply = 0; region = Nothing }
+    when c.place.dummy then record { control = dummy_read c; reply = 0; region = Nothing }
     else record { control = moved_on c; reply = found c.place.target c.place m; region = read_names c (moved_on c) }
 
 -- a status read: the busy bit, bit 6 zero, the counter; it changes nothing and names none
@@ -74,7 +74,7 @@ carried_out_at_cost m c t = acted (carried_out m c t).memories (at_cost (cost c 
 -- a transfer that would act: while busy all but a status read are lost, and that does not restart the time; else it is carried out, at its
 -- cost
 unfoldable pub on_time : Memories → Control → Transfer → Acted
-on_time m c t = if lost c t then acted m (nothing_done c) else carried_out_at_cost m c t
+on_time m c t = when lost c t then acted m (nothing_done c) else carried_out_at_cost m c t
 
 -- everything as fresh, and every byte is named
 abbrev pub restarted : Made → Acted

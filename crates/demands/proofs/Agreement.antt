@@ -5,13 +5,10 @@ use mathlib.Core.List.{List, [], ◌∷◌, ◌++◌, map}
 use mathlib.Core.Path.{◌≡◌, refl, sym, ap, ◌∙◌, subst}
 use native.Mathlib.Omega.{arith}
 use lib.ListN.{length, replicate}
-use Rattle.base.proofs.Painting.{painted-length, painted-none}
+use Rattle.base.proofs.Painting.{painted-length}
 use Rattle.controller.specs.declared.Control.{Control}
-use Rattle.controller.specs.declared.View.{View}
 use Rattle.controller.specs.declared.Region.{Region}
-use Rattle.controller.specs.declared.Region.TheVariants as region
 use Rattle.controller.specs.Memories.{Memories}
-use Rattle.controller.specs.Named.{covers}
 use Rattle.deeds.specs.Transfers.{performed}
 use Rattle.events.specs.declared.Event.{Event}
 use Rattle.events.specs.declared.Deed.{Deed}
@@ -20,13 +17,12 @@ use Rattle.links.specs.declared.Link.{Link}
 use Rattle.serial.specs.declared.Sync.TheVariants.{Lost}
 use Rattle.links.specs.declared.Taken.{Taken}
 use Rattle.links.specs.declared.Taken.TheVariants.{OtherLink, Carries}
-use Rattle.connector.specs.Items.{WholeWrite, Item, write, beside_wires, deed, Way, whole_bytes, halves, serial, bits_of, wires, write_deeds, wire_deeds, idle_on, resting, sync_after}
-use Rattle.connector.specs.Connector.{Performed, CameAll, Comes, elsewhere, comes, next, preceded, carried_at, taken_at, event_at, runs, KeepsDl, Idles}
+use Rattle.connector.specs.Items.{WholeWrite, Item, write, beside_wires, deed, Way, whole_bytes, halves, serial, bits_of, wires, write_deeds, wire_deeds, idle_on, resting}
+use Rattle.connector.specs.Connector.{Performed, CameAll, Comes, elsewhere, comes, next, preceded, carried_at, taken_at, event_at, runs, Idles}
 use Rattle.connector.proofs.ItemsAct.{items-act, lists_agree}
 use Rattle.picture.specs.declared.Look.{Look}
-use Rattle.picture.specs.Picture.{Fonts, Seen, look_of, wide}
-use Rattle.repaint.specs.Repaint.{named, repainted, count_named}
-use Rattle.repaint.proofs.Counts.{count-nothing}
+use Rattle.picture.specs.Picture.{Seen, look_of, wide}
+use Rattle.repaint.specs.Repaint.{repainted}
 use Rattle.calls.specs.State.{state}
 use Rattle.deeds.proofs.Untimed.{performed_timed}
 use Rattle.calls.specs.Calls.{Called, unless_other, taken_on, timeless, Fits, called, Stands, after_calls}

@@ -2,12 +2,11 @@
 use Prim.Native.Nat.{ℕ, ◌≤◌}
 use mathlib.Core.Bool.{Bool, true, false, ◌&&◌, and-false, true≢false}
 use mathlib.Core.List.{List}
-use mathlib.Core.Path.{◌≡◌, refl, ◌∙◌, sym, ap, subst}
+use mathlib.Core.Path.{◌≡◌, ◌∙◌, sym, ap, subst}
 use native.Mathlib.Nat.{le_trans}
 use native.Mathlib.Omega.{arith}
 use lib.ListN.{length}
 use lib.Dec.{eqb}
-use Rattle.base.specs.Painting.{count}
 use Rattle.base.proofs.Choice.{either}
 use Rattle.table.specs.declared.Target.{Target}
 use Rattle.table.specs.declared.Target.TheVariants.{Text, Glyph, Graphic}
@@ -25,7 +24,6 @@ use Rattle.deeds.specs.Transfers.{Acted, written, read_out, carried_out, on_time
 use Rattle.events.specs.declared.Event.{Event}
 use Rattle.events.specs.declared.Transfer.{Transfer}
 use Rattle.events.specs.declared.Transfer.TheVariants.{Instruct, Write, Status, Read}
-use Rattle.events.specs.declared.Deed.TheVariants.{Whole}
 use Rattle.links.specs.declared.Taken.{Taken}
 use Rattle.links.specs.declared.Taken.TheVariants.{OtherLink, Carries}
 use Rattle.picture.specs.Picture.{Seen, wide}

@@ -19,7 +19,7 @@ use Rattle.controller.specs.Instructions as instructions
 use Rattle.controller.specs.Instructions.{with_function, begun, obeyed, modes}
 use Rattle.controller.specs.Data.{moved_on}
 use Rattle.controller.specs.Named.{instruction_names, write_names, read_names}
-use Rattle.base.specs.Choice.{if◌then◌else◌}
+use Rattle.base.specs.Choice.{when◌then◌else◌}
 use Rattle.table.specs.Touches.{touches}
 use Rattle.time.specs.Time.{lost, instruction_cost, cost}
 use Rattle.deeds.specs.Transfers.{Acted, acted, obeyed_acted, executed, written, read_out, status_read, carried_out, nothing_done, at_cost, on_time, performed}
@@ -121,16 +121,16 @@ read_but_dl m c = by_test c.place.dummy (λ t. rw t) (λ t. rw t)
 module _ (m : Memories) (c : Control) where
   -- lost, or carried out at its cost, but for DL
   outcome : Bool → ℕ → Acted → Acted
-  outcome is n a = if is then acted m (nothing_done (with_dl true c)) else acted a.memories (at_cost n a.done)
+  outcome is n a = when is then acted m (nothing_done (with_dl true c)) else acted a.memories (at_cost n a.done)
 
   loses : (is : Bool) (n : ℕ) (a : Acted) →
-      acted_but_dl (if is then acted m (nothing_done c) else acted a.memories (at_cost n a.done)) ≡ outcome is n (acted_but_dl a)
+      acted_but_dl (when is then acted m (nothing_done c) else acted a.memories (at_cost n a.done)) ≡ outcome is n (acted_but_dl a)
   unfolding outcome
   loses true n a = refl
   loses false n a = refl
 
   loses_too : (is : Bool) (n : ℕ) (a : Acted) →
-      acted_but_dl (if is then acted m (nothing_done (with_dl true c)) else acted a.memories (at_cost n a.done)) ≡ outcome is n (acted_but_dl a)
+      acted_but_dl (when is then acted m (nothing_done (with_dl true c)) else acted a.memories (at_cost n a.done)) ≡ outcome is n (acted_but_dl a)
   unfolding outcome
   loses_too true n a = refl
   loses_too false n a = refl

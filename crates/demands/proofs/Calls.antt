@@ -5,7 +5,7 @@ use mathlib.Core.List.{List}
 use mathlib.Core.Path.{◌≡◌, refl, ap, subst, sym, ◌∙◌}
 use lib.ListN.{length}
 use lib.Dec.{eqb}
-use Rattle.base.specs.Choice.{if◌then◌else◌}
+use Rattle.base.specs.Choice.{when◌then◌else◌}
 use Rattle.base.proofs.Choice.{by_test}
 use Rattle.controller.specs.declared.Control.{Control}
 use Rattle.controller.specs.Memories.{Memories}
@@ -39,7 +39,7 @@ other-taken dl (Serial receiver) SelectLow = refl
 other-taken dl l (Reset pin) = refl
 other-taken dl l (Pass eights) = refl
 
-other-number : (e : Seen) (s : State) (frame : List ℕ) (t : Taken) → (unless_other e s frame t).number ≡ (if is_other t then 5 else 0)
+other-number : (e : Seen) (s : State) (frame : List ℕ) (t : Taken) → (unless_other e s frame t).number ≡ (when is_other t then 5 else 0)
 other-number e s frame OtherLink = refl
 other-number e s frame (Carries c) = refl
 
@@ -54,7 +54,7 @@ module _ (e : Seen) (s : State) (frame : List ℕ) (call : Event) where
       (by_test (timeless s.control call) (λ w. rw w)
       (λ w. rw w
       (other-number e s frame (taken_on s call)
-      ∙ ap (λ (b : Bool). if b then 5 else 0) (other-taken s.control.function.dl s.link call)))))
+      ∙ ap (λ (b : Bool). when b then 5 else 0) (other-taken s.control.function.dl s.link call)))))
       (λ t. rw t)
 
   pub call-refuses : CallRefuses e s frame call

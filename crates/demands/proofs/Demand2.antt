@@ -1,8 +1,8 @@
 -- Demand 2, from the laws of the links and of all sequences of calls.
-use mathlib.Core.List.{List, [], ◌∷◌}
+use mathlib.Core.List.{List}
 use Prim.Native.Nat.{ℕ}
 use mathlib.Core.Bool.{false}
-use mathlib.Core.Path.{◌≡◌, refl, ap, ◌∙◌}
+use mathlib.Core.Path.{◌≡◌, refl, ◌∙◌}
 use lib.ListN.{length}
 use borrow.Author.Tests.{le-ltb}
 use Rattle.base.proofs.Counting.{count_none}
@@ -21,7 +21,8 @@ use Rattle.calls.specs.State.{State, state}
 use Rattle.calls.proofs.Kept.{admitted, reset-fresh}
 use Rattle.sender.specs.Sender.{sent}
 use Rattle.picture.proofs.Accepted.{draws}
-use Rattle.calls.specs.Calls.{Called, unless_other}
+use Rattle.calls.specs.Calls.{unless_other}
+use Rattle.demands.proofs.Yielded.{sequences_as_defined}
 use Rattle.demands.proofs.Agreement.{call_is_connected, sent-is-received, writes_are_received, links_agree}
 use Rattle.demands.proofs.Lost.{lost_when_busy, lost-leaves-all, quiet-calls-cost-nothing, carried_out_unless_lost, costs, status-shows-busy, pass_falls, time-is-kept, fresh-is-not-busy}
 use Rattle.demands.proofs.Direction.{clear-turns, home-does-not, others_do_not, else_as_home_lem}
@@ -31,23 +32,12 @@ use Rattle.demands.proofs.Waiting.{waiting-is-served}
 use Rattle.demands.proofs.Waits.{none-lost-without-time, waiting_sender_is_served}
 use Rattle.demands.proofs.NoneLost.{carried_out_where_none_lost}
 use Rattle.demands.proofs.KeepDl.{function_sets-keep-dl}
-use Rattle.panel.specs.Handed.{handed}
-use Rattle.demands.specs.Demand2.{Run, yielded, SequencesAsDefined, SelectLowIdles, SendsThreeBytes, Demand2}
+use Rattle.demands.specs.Demand2.{SelectLowIdles, SendsThreeBytes, Demand2}
 use Rattle.connector.proofs.HalvesPaired.{halves-read-whole}
 use Rattle.demands.specs.Wires.{board}
 use Rattle.demands.proofs.Stored.{words_stored}
 use Rattle.demands.proofs.ReadBack.{read_back}
 use Rattle.demands.proofs.Replies.{replies-to-reads}
-
-sequences_as_defined : SequencesAsDefined
-unfolding Run yielded
-sequences_as_defined p frame [] [] run = refl
-sequences_as_defined p frame [] (l ∷ left) run = absurd run
-sequences_as_defined p frame (g ∷ given) [] run = absurd run
-sequences_as_defined p frame (g ∷ given) (l ∷ left) run =
-    ap (λ (more : List Called). handed l.outcome l.frame ∷ more)
-    (sequences_as_defined l.outcome.panel l.frame given left run.1)
-    ∙ ap (λ (k : Called). k ∷ yielded k.state k.frame given) run.0
 
 sends_three_bytes : SendsThreeBytes
 unfolding sent

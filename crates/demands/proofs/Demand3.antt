@@ -1,26 +1,22 @@
 -- Demand 3, from the laws of one call: what it names becomes the picture's, and what it does not name keeps its byte in frame and picture.
-use Prim.Native.Nat.{ℕ, ◌≤◌, ◌<◌, ◌/◌, ◌%◌}
+use Prim.Native.Nat.{ℕ, ◌<◌, ◌/◌, ◌%◌}
 use mathlib.Core.Bool.{Bool, false}
 use mathlib.Core.List.{List, [], ◌∷◌}
 use mathlib.Core.Path.{◌≡◌, refl, sym, ◌∙◌}
 use native.Mathlib.Omega.{arith}
-use lib.Dec.{eqb}
 use lib.ListN.{length, get_or}
-use Rattle.base.specs.Choice.{if◌then◌else◌}
+use Rattle.base.specs.Choice.{when◌then◌else◌}
 use Rattle.base.specs.Painting.{count}
 use Rattle.base.proofs.Choice.{either-told, by_test}
 use Rattle.base.proofs.Counting.{count_none}
 use Rattle.base.proofs.Painting.{painted-at}
 use Rattle.base.proofs.Tests.{or_neither}
-use Rattle.controller.specs.declared.Control.{Control}
-use Rattle.controller.specs.Memories.{Memories}
 use Rattle.controller.specs.Named.{covers}
 use Rattle.deeds.specs.Transfers.{performed}
 use Rattle.events.specs.declared.Event.{Event}
 use Rattle.links.specs.declared.Taken.{Taken}
 use Rattle.links.specs.declared.Taken.TheVariants.{OtherLink, Carries}
 use Rattle.picture.specs.Picture.{Seen, look_of, wide}
-use Rattle.picture.specs.Refusals.{refusal_of}
 use Rattle.picture.proofs.Wide.{picture-at}
 use Rattle.picture.proofs.Accepted as sizes
 use Rattle.repaint.specs.Repaint.{named, repainted, count_named}
@@ -58,7 +54,7 @@ taken-shows :
     → length frame ≡ 1024
     → i < 1024
     → get_or (unless_other e s frame t).frame i 0
-    ≡ (if named_taken s t i then get_or (picture_of e (unless_other e s frame t).state) i 0 else get_or frame i 0)
+    ≡ (when named_taken s t i then get_or (picture_of e (unless_other e s frame t).state) i 0 else get_or frame i 0)
 unfolding repainted performed named covers
 taken-shows e s frame OtherLink i l h = refl
 taken-shows e s frame (Carries c) i l h =
@@ -83,11 +79,11 @@ taken-keeps e s frame (Carries c) i v h u =
 module _ (e : Seen) (s : State) (frame : List ℕ) (call : Event) (i : ℕ) (fits : Fits e frame) (h : i < 1024) where
   call-shows :
       get_or (called e s frame call).frame i 0
-      ≡ (if named_by s call i then get_or (picture_of e (called e s frame call).state) i 0 else get_or frame i 0)
+      ≡ (when named_by s call i then get_or (picture_of e (called e s frame call).state) i 0 else get_or frame i 0)
   call-shows =
       rw (admitted e s frame call fits)
       (either-told
-      (λ (k : Called). get_or k.frame i 0 ≡ (if named_by s call i then get_or (picture_of e k.state) i 0 else get_or frame i 0))
+      (λ (k : Called). get_or k.frame i 0 ≡ (when named_by s call i then get_or (picture_of e k.state) i 0 else get_or frame i 0))
       (timeless s.control call)
       (λ w. rw (timeless_names s call i w))
       (λ w. taken-shows e s frame (taken_on s call) i

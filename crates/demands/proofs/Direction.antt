@@ -3,8 +3,7 @@ use Prim.Native.Nat.{ℕ}
 use mathlib.Core.Bool.{Bool, true, false, ◌&&◌}
 use mathlib.Core.List.{List}
 use mathlib.Core.Logic.{◌≢◌, ◌⊎◌, inl, inr}
-use mathlib.Core.Path.{◌≡◌, refl, sym, ap, subst, ◌∙◌}
-use Rattle.base.specs.Choice.{if◌then◌else◌}
+use mathlib.Core.Path.{◌≡◌, refl, ap, ◌∙◌}
 use Rattle.base.proofs.Choice.{either}
 use Rattle.table.specs.declared.Instruction.{Instruction}
 use Rattle.table.specs.declared.Instruction.TheVariants.{Ignored, Clear, Home, EntryMode, Display, MoveCursor, MoveDisplay, FunctionSet, GlyphAddress, TextAddress, Standby, SetSr, ToggleReverse, Scroll, GraphicAddress}
@@ -14,7 +13,7 @@ use Rattle.controller.specs.declared.Control.{Control}
 use Rattle.controller.specs.declared.Region.{Region}
 use Rattle.controller.specs.declared.Region.TheVariants.{Whole}
 use Rattle.controller.specs.Memories.{Memories}
-use Rattle.controller.specs.Instructions.{with_entry, obeyed, cleared, modes}
+use Rattle.controller.specs.Instructions.{obeyed, cleared, modes}
 use Rattle.controller.specs.Named.{instruction_names}
 use Rattle.time.specs.Time.{busy, instruction_cost}
 use Rattle.deeds.specs.Transfers.{Acted, acted, obeyed_acted, executed, carried_out, at_cost, on_time}
@@ -28,7 +27,7 @@ use Rattle.repaint.proofs.Counts.{count-whole}
 use Rattle.calls.specs.State.{State}
 use Rattle.calls.specs.Calls.{Called, accepted, Fits, called}
 use Rattle.demands.specs.Lost.{Brings}
-use Rattle.demands.specs.Direction.{Turned, ClearTurns, HomeDoesNot, OthersDoNot, ElseAsHome}
+use Rattle.demands.specs.Direction.{ClearTurns, HomeDoesNot, OthersDoNot, ElseAsHome}
 use Rattle.demands.proofs.Lost.{brought}
 
 -- the table's entries, one by one

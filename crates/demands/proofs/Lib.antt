@@ -23,6 +23,7 @@ pub mod Pairs
 pub mod Replays
 pub mod Demand1
 pub mod Replies
+pub mod Yielded
 pub mod Demand2
 pub mod Demand3
 pub mod TwoPanels

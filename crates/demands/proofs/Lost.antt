@@ -8,7 +8,7 @@ use mathlib.Core.Path.{◌≡◌, refl, sym, ap, subst, ◌∙◌}
 use native.Mathlib.Omega.{arith}
 use lib.Dec.{ltb}
 use borrow.Author.Tests.{ltb-true, lt-ltb}
-use Rattle.base.specs.Choice.{if◌then◌else◌}
+use Rattle.base.specs.Choice.{when◌then◌else◌}
 use Rattle.table.specs.declared.Instruction.{Instruction}
 use Rattle.table.specs.declared.Instruction.TheVariants.{Ignored, Clear, Home, EntryMode, Display, MoveCursor, MoveDisplay, FunctionSet, GlyphAddress, TextAddress, Standby, SetSr, ToggleReverse, Scroll, GraphicAddress}
 use Rattle.table.specs.Table.{said}
@@ -26,7 +26,6 @@ use Rattle.events.specs.declared.Event.TheVariants.{Bit, SelectLow, Reset, Pass}
 use Rattle.events.specs.declared.Event.TheVariants as event
 use Rattle.events.specs.declared.Transfer.{Transfer}
 use Rattle.events.specs.declared.Transfer.TheVariants.{Instruct, Write, Status, Read}
-use Rattle.events.specs.declared.Deed.{Deed}
 use Rattle.events.specs.declared.Deed.TheVariants as deed
 use Rattle.links.specs.declared.Link.{Link}
 use Rattle.links.specs.declared.Link.TheVariants.{Parallel, Serial}
@@ -40,9 +39,9 @@ use Rattle.links.specs.Halves.{paired}
 use Rattle.links.specs.Taken.{by_width, taken_by, replied}
 use Rattle.picture.specs.Picture.{Seen}
 use Rattle.calls.specs.State.{State, state, fresh_state}
-use Rattle.calls.specs.Calls.{Called, refused, accepted, unless_other, taken_on, reaching, timeless, unless_timeless, Fits, called}
+use Rattle.calls.specs.Calls.{Called, refused, accepted, unless_other, taken_on, reaching, Fits, called}
 use Rattle.calls.proofs.Kept.{admitted, called_timed}
-use Rattle.demands.specs.Lost.{LostWhenBusy, Costs, Brings, LostLeavesAll, BringsNothing, QuietCallsCostNothing, apart_from_time, CarriedOutUnlessLost, StatusShowsBusy, PassFalls, TimeIsKept, FreshIsNotBusy}
+use Rattle.demands.specs.Lost.{LostWhenBusy, Costs, Brings, LostLeavesAll, QuietCallsCostNothing, apart_from_time, CarriedOutUnlessLost, StatusShowsBusy, PassFalls, TimeIsKept, FreshIsNotBusy}
 use Rattle.demands.proofs.Carried.{of-paired}
 use Rattle.demands.proofs.Quiet.{unnamed_accepted}
 use Rattle.demands.proofs.Timely.{admitted-timely, unpassed_timely}
@@ -123,7 +122,7 @@ reply-zero s call t rest b = subst ZeroTaken b (taken-zero s.control.function.dl
 lost-acted : (m : Memories) (c : Control) (t : Transfer) → lost c t ≡ true → on_time m c t ≡ acted m (nothing_done c)
 unfolding on_time
 lost-acted m c t l =
-    ap (λ (x : Bool). if x then acted m (nothing_done c) else carried_out_at_cost m c t) l
+    ap (λ (x : Bool). when x then acted m (nothing_done c) else carried_out_at_cost m c t) l
 
 pub lost-leaves-all : LostLeavesAll
 lost-leaves-all e s frame call t rest h b l =
@@ -140,7 +139,7 @@ charged-costs n t e h = rw (e, lt-ltb 0 n h)
 charged-none : (t : Time) → charged 0 t ≡ t
 charged-none t = ap (λ (n : ℕ). record { timed = t.timed; remaining = n }) (by t.timed t.remaining)
   where
-    by : (timed : Bool) (n : ℕ) → (if timed && ltb 0 0 then 0 else n) ≡ n
+    by : (timed : Bool) (n : ℕ) → (when timed && ltb 0 0 then 0 else n) ≡ n
     by true n = refl
     by false n = refl
 
@@ -168,10 +167,10 @@ unfolding on_time carried_out status_read
 status-acted m c =
     ap (λ (x : Time). acted m (record { control = with_time x c; reply = (status_read c).reply; region = (status_read c).region })) (charged-none c.time)
 
-shown-busy : (c : Control) → busy_bit c + c.place.counter ≡ (if busy c then 0x80 + c.place.counter else c.place.counter)
+shown-busy : (c : Control) → busy_bit c + c.place.counter ≡ (when busy c then 0x80 + c.place.counter else c.place.counter)
 shown-busy c = by (busy c)
   where
-    by : (x : Bool) → (if x then 0x80 else 0) + c.place.counter ≡ (if x then 0x80 + c.place.counter else c.place.counter)
+    by : (x : Bool) → (when x then 0x80 else 0) + c.place.counter ≡ (when x then 0x80 + c.place.counter else c.place.counter)
     by true = refl
     by false = omega arith
 
@@ -190,7 +189,7 @@ status-shows-busy e s frame pairing h l d =
     ∙ ap (λ (x : Link). record {
       state = state m c x;
       number = 0;
-      reply = if busy c then 0x80 + c.place.counter else c.place.counter;
+      reply = when busy c then 0x80 + c.place.counter else c.place.counter;
       count = 0;
       frame = frame;
     }) (sym l)
@@ -208,7 +207,7 @@ pass_falls e s frame value h timed =
     let m = s.memories in
     let c = s.control in
     admitted e s frame (Pass value) h
-    ∙ ap (λ (x : Bool). if not x then refused s frame 8 else unless_other e s frame (taken_on s (Pass value))) timed
+    ∙ ap (λ (x : Bool). when not x then refused s frame 8 else unless_other e s frame (taken_on s (Pass value))) timed
     ∙ unnamed_accepted e frame m (with_time (elapsed value c.time) c) 0 (Stays s.link)
     ∙ ap (λ (x : Time). record { state = state m (with_time x c) s.link; number = 0; reply = 0; count = 0; frame = frame })
     (falls value c.time timed)

@@ -8,7 +8,7 @@ use native.Mathlib.Omega.{arith}
 use lib.Dec.{eqb, leb, ltb}
 use lib.ListN.{length}
 use borrow.Author.Tests.{eqb-true, eqb-false, ltb-true, ltb-false, lt-leb, le-leb}
-use Rattle.base.specs.Choice.{if◌then◌else◌}
+use Rattle.base.specs.Choice.{when◌then◌else◌}
 use Rattle.base.proofs.Choice.{either, either-told, by_test}
 use Rattle.base.proofs.Below.{below, ◌&◌}
 use Rattle.controller.specs.declared.Image as image
@@ -38,7 +38,7 @@ row_dots : (x : ℕ) → x < 8 → dot x 0xFF ≡ true
 row_dots = below (λ x. dot x 0xFF ≡ true) 8 (refl & refl & refl & refl & refl & refl & refl & refl & tt)
 
 abbrev EdgeDot : Bool → ℕ → Type 0
-EdgeDot low x = dot x (if low then 0x01 else 0x80) ≡ (eqb (8 * half low + x) 0 || eqb (8 * half low + x) 15)
+EdgeDot low x = dot x (when low then 0x01 else 0x80) ≡ (eqb (8 * half low + x) 0 || eqb (8 * half low + x) 15)
 
 edge_dots : (low : Bool) (x : ℕ) → x < 8 → EdgeDot low x
 edge_dots false = below (EdgeDot false) 8 (refl & refl & refl & refl & refl & refl & refl & refl & tt)

@@ -7,9 +7,9 @@ use mathlib.Core.List.{List, [], ◌∷◌, map}
 use mathlib.Core.Path.{◌≡◌, refl, sym, ap, ap₂, ◌∙◌}
 use native.Mathlib.Omega.{arith}
 use lib.Dec.{eqb, leb}
-use lib.ListN.{length, get_or}
+use lib.ListN.{length}
 use borrow.Author.Tests.{ne_eqb, lt-leb, le-leb}
-use Rattle.base.specs.Choice.{if◌then◌else◌}
+use Rattle.base.specs.Choice.{when◌then◌else◌}
 use Rattle.base.proofs.Choice.{either, by_test}
 use Rattle.base.proofs.Counting.{count_cong}
 use Rattle.table.specs.declared.Instruction.{Instruction}
@@ -21,14 +21,14 @@ use Rattle.controller.specs.declared.Control.{Control}
 use Rattle.controller.specs.declared.Region.{Region}
 use Rattle.controller.specs.declared.Region.TheVariants as region
 use Rattle.controller.specs.declared.View.{View}
-use Rattle.controller.specs.Memories.{Memories, memories, word_place}
+use Rattle.controller.specs.Memories.{Memories, memories}
 use Rattle.controller.specs.State.{fresh_control}
 use Rattle.controller.specs.Instructions.{with_view, with_numbering, cleared, modes}
 use Rattle.controller.specs.Data.{stored, found, shifts, moved_on}
 use Rattle.controller.specs.Glass.{image_of, shown_row, shown_word}
 use Rattle.controller.specs.Named.{in_cell, in_some_cell, instruction_names, write_names, read_names, shows_glyph, shows_graphic, covers}
 use Rattle.time.specs.Time.{lost, cost}
-use Rattle.deeds.specs.Transfers.{Acted, acted, executed, written, read_out, status_read, carried_out, nothing_done, at_cost, on_time, performed}
+use Rattle.deeds.specs.Transfers.{Acted, acted, executed, written, read_out, status_read, carried_out, on_time, performed}
 use Rattle.deeds.specs.declared.Done.{Done}
 use Rattle.deeds.proofs.Beside.{obeyed-alike}
 use Rattle.events.specs.declared.Deed.{Deed}
@@ -62,7 +62,7 @@ use Rattle.picture.specs.Picture.{Seen, wide, word_content, cell_byte}
 use Rattle.picture.proofs.Unread.{half-right}
 use Rattle.picture.specs.Refusals.{refusal_of, lent_refusal}
 use Rattle.repaint.specs.Repaint.{named, count_named}
-use Rattle.calls.specs.State.{State, state, fresh_state}
+use Rattle.calls.specs.State.{State, fresh_state}
 use Rattle.calls.specs.Calls.{Called, accepted, unless_other, taken_on, reaching, timeless, called}
 use Rattle.calls.proofs.Kept.{called-length, reset-fresh}
 use Rattle.demands.specs.Wires.{answers}
@@ -72,7 +72,7 @@ use Rattle.demands.proofs.Carried.{of-paired}
 use Rattle.demands.proofs.Timely.{timeless-same}
 
 -- what holds of both pairs of answers holds of the pair that a test picks
-both_picked : {A B : Type 0} (R : A → B → Type 0) (t : Bool) {a c : A} {b d : B} → R a b → R c d → R (if t then a else c) (if t then b else d)
+both_picked : {A B : Type 0} (R : A → B → Type 0) (t : Bool) {a c : A} {b d : B} → R a b → R c d → R (when t then a else c) (when t then b else d)
 both_picked R true p q = p
 both_picked R false p q = q
 
@@ -109,7 +109,7 @@ full-alike high low size (Number i) h l e = long-enough size i (read_back By96 h
 pub end_not_asked_for_lem : EndNotAskedFor
 unfolding content_of font_of
 end_not_asked_for_lem high low size h l =
-    ap (λ (c : Content). image_or (image_of high low) (if leb 0xA1 high then c else Halves high low)) (full-alike high low size (number_of By96 high low) h l refl)
+    ap (λ (c : Content). image_or (image_of high low) (when leb 0xA1 high then c else Halves high low)) (full-alike high low size (number_of By96 high low) h l refl)
 
 -- a word from A1h on is no image, and goes by its code; one that has a number is such a word
 pub by_code : (n : Numbering) (high low size : ℕ) → 0xA1 ≤ high → content_of n high low size ≡ full_of (number_of n high low) size
@@ -242,15 +242,15 @@ kept_otherwise e s frame call h =
 
 -- the named bytes do not look at it
 module _ (n : Numbering) (v : View) where
-  abbrev other : View
-  other = with_numbering n v
+  abbrev turned : View
+  turned = with_numbering n v
 
-  cell-alike : (cell : Cell) (row column : ℕ) → in_some_cell v cell row column ≡ in_some_cell other cell row column
+  cell-alike : (cell : Cell) (row column : ℕ) → in_some_cell v cell row column ≡ in_some_cell turned cell row column
   unfolding in_cell shown_row
   cell-alike Nowhere row column = refl
   cell-alike (Word word) row column = refl
 
-  covers-alike : (text : List ℕ) (r : Region) (row column : ℕ) → covers v text r row column ≡ covers other text r row column
+  covers-alike : (text : List ℕ) (r : Region) (row column : ℕ) → covers v text r row column ≡ covers turned text r row column
   unfolding covers shows_glyph shows_graphic shown_row shown_word
   covers-alike text region.Nothing row column = refl
   covers-alike text region.Whole row column = refl
@@ -258,7 +258,7 @@ module _ (n : Numbering) (v : View) where
   covers-alike text (region.GlyphHalf word low) row column = refl
   covers-alike text (region.GraphicHalf y k low) row column = refl
 
-  counted-alike : (text : List ℕ) (r : Region) → count_named wide v text r ≡ count_named wide other text r
+  counted-alike : (text : List ℕ) (r : Region) → count_named wide v text r ≡ count_named wide turned text r
   unfolding count_named named
   counted-alike text r = count_cong 1024 _ _ (λ i h. covers-alike text r (i / 32) (i % 32))
 

@@ -5,8 +5,8 @@ use mathlib.Core.Bool.{Bool, true, false}
 use mathlib.Core.List.{List, [], ◌∷◌, map}
 use mathlib.Core.Logic.{◌⊎◌, inl, inr}
 use mathlib.Core.Path.{◌≡◌, refl, ap, sym, subst, ◌∙◌}
-use lib.ListN.{length, replicate}
-use Rattle.base.specs.Choice.{if◌then◌else◌}
+use lib.ListN.{replicate}
+use Rattle.base.specs.Choice.{when◌then◌else◌}
 use Rattle.base.specs.Painting.{count}
 use Rattle.table.specs.Table.{row_of, said}
 use Rattle.controller.specs.Memories.{fresh_memories}
@@ -27,7 +27,7 @@ use Rattle.numbering.specs.Numbering.{number_of}
 use Rattle.picture.specs.Picture.{Seen}
 use Rattle.picture.specs.Refusals.{refusal_of}
 use Rattle.repaint.specs.Repaint.{named, count_named}
-use Rattle.calls.specs.State.{State, state, fresh_state}
+use Rattle.calls.specs.State.{State, fresh_state}
 use Rattle.calls.specs.Calls.{Called, accepted, refused, unless_other, taken_on, timeless, Fits, called, after_calls}
 use Rattle.demands.specs.Wires.{answers}
 use Rattle.calls.proofs.Kept.{admitted, still_fits}
@@ -48,7 +48,7 @@ told_by s OtherLink = record { state = s; number = 5; reply = 0; count = 0 }
 told_by s (Carries c) = told (accepted zero_fonts [] (performed s.memories s.control c.deed) c.rest)
 
 unfoldable pub tells : State → Event → Told
-tells s call = if timeless s.control call then record { state = s; number = 8; reply = 0; count = 0 } else told_by s (taken_on s call)
+tells s call = when timeless s.control call then record { state = s; number = 8; reply = 0; count = 0 } else told_by s (taken_on s call)
 
 all_told : State → List Event → List Told
 all_told s [] = []
@@ -64,8 +64,8 @@ taken-told e s frame (Carries c) = refl
 
 timely-told :
     (e : Seen) (s : State) (frame : List ℕ) (t : Taken) (w : Bool)
-    → told (if w then refused s frame 8 else unless_other e s frame t)
-    ≡ (if w then record { state = s; number = 8; reply = 0; count = 0 } else told_by s t)
+    → told (when w then refused s frame 8 else unless_other e s frame t)
+    ≡ (when w then record { state = s; number = 8; reply = 0; count = 0 } else told_by s t)
 timely-told e s frame t true = refl
 timely-told e s frame t false = taken-told e s frame t
 

@@ -1,9 +1,8 @@
 -- Demand 3 for every call: a place that is not named keeps its picture byte, so repainting a frame that equals the picture gives the
 -- picture drawn afresh; and so over any sequence of calls.
-use Prim.Native.Nat.{ℕ, ◌<◌, ◌/◌, ◌%◌}
+use Prim.Native.Nat.{ℕ, ◌<◌}
 use mathlib.Core.Bool.{false}
 use mathlib.Core.Path.{◌≡◌, refl}
-use native.Mathlib.Omega.{arith}
 use Rattle.base.proofs.Choice.{either}
 use Rattle.base.proofs.Layouts.{repainted-whole}
 use Rattle.table.specs.Table.{said}

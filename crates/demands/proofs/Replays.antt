@@ -8,7 +8,7 @@ use native.Mathlib.Omega.{arith}
 use lib.ListN.{length, take, replicate, length-append}
 use lib.Dec.{eqb, leb}
 use borrow.Author.Tests.{eqb-true, eqb-false, eq-eqb, not-true, not-false, leb-false, ltb-false}
-use Rattle.base.specs.Choice.{if◌then◌else◌}
+use Rattle.base.specs.Choice.{when◌then◌else◌}
 use Rattle.base.proofs.Choice.{by_test, either-told}
 use Rattle.controller.specs.declared.Control.{Control}
 use Rattle.links.specs.declared.Link.{Link}
@@ -51,7 +51,7 @@ module _ (e : Seen) where
       → after_calls e s frame calls ≡ stands_at (called_on e reply s frame calls).state (called_on e reply s frame calls).frame
   unfolding after_calls called_on
   in_turn_does reply s frame [] = refl
-  in_turn_does reply s frame (call ∷ calls) = in_turn_does _ _ _ calls
+  in_turn_does reply s frame (call ∷ calls) = let k = called e s frame call in in_turn_does k.reply k.state k.frame calls
 
   in_turn_reply : (s : State) (frame : List ℕ) (calls : List Event) → (called_on e 0 s frame calls).reply ≡ last_reply (answers e s frame calls)
   unfolding called_on answers last_reply
@@ -70,7 +70,8 @@ module _ (e : Seen) where
       → (called_on e reply s frame calls).count ≡ sum_of_counts (answers e s frame calls)
   unfolding called_on answers sum_of_counts
   in_turn_count reply s frame [] = refl
-  in_turn_count reply s frame (call ∷ calls) = ap (λ (i : ℕ). (called e s frame call).count + i) (in_turn_count _ _ _ calls)
+  in_turn_count reply s frame (call ∷ calls) =
+      let k = called e s frame call in ap (λ (i : ℕ). k.count + i) (in_turn_count k.reply k.state k.frame calls)
 
 module _ (e : Seen) (r : Recorded) (s : State) (frame : List ℕ) where
   abbrev carried : Called
@@ -108,16 +109,16 @@ first-timely time c r h few =
 
 -- with frame and fonts that fit, a record is refused where its first call is of the other link, and with 5
 module _ (e : Seen) (s : State) (frame : List ℕ) (fits : Fits e frame) where
-  fitting_number : (call : Event) → timeless s.control call ≡ false → (called e s frame call).number ≡ (if of_other_link s.link call then 5 else 0)
+  fitting_number : (call : Event) → timeless s.control call ≡ false → (called e s frame call).number ≡ (when of_other_link s.link call then 5 else 0)
   fitting_number call w =
       call-number e s frame call
       ∙ ap (or_wants (timeless s.control call) (of_other_link s.link call)) fits
-      ∙ ap (λ (x : Bool). if x then 8 else if of_other_link s.link call then 5 else 0) w
+      ∙ ap (λ (x : Bool). when x then 8 else when of_other_link s.link call then 5 else 0) w
 
   first-number :
       (calls : List Event)
       → first_timeless s.control calls ≡ false
-      → first_number e s frame calls ≡ (if first_of_other_link s.link calls then 5 else 0)
+      → first_number e s frame calls ≡ (when first_of_other_link s.link calls then 5 else 0)
   unfolding first_timeless
   first-number [] w = refl
   first-number (call ∷ calls) w = fitting_number call w
@@ -125,7 +126,7 @@ module _ (e : Seen) (s : State) (frame : List ℕ) (fits : Fits e frame) where
   record_number :
       (r : Recorded)
       → first_timeless s.control (calls_of r) ≡ false
-      → (carried e r s frame).number ≡ (if first_of_other_link s.link (calls_of r) then 5 else 0)
+      → (carried e r s frame).number ≡ (when first_of_other_link s.link (calls_of r) then 5 else 0)
   unfolding record_called called_in_turn
   record_number r w =
       by_test (eqb (first_number e s frame (calls_of r)) 0)
@@ -141,7 +142,7 @@ module _ (e : Seen) where
   unfolding answers
   bits_accepted [] s frame fits h = refl
   bits_accepted (b ∷ bs) s frame fits h =
-      let first = fitting_number e s frame fits (Bit b) refl ∙ ap (λ (x : Bool). if x then 5 else 0) (ap not h) in
+      let first = fitting_number e s frame fits (Bit b) refl ∙ ap (λ (x : Bool). when x then 5 else 0) (ap not h) in
       ap (λ (ns : List ℕ). (called e s frame (Bit b)).number ∷ ns)
       (bits_accepted bs (called e s frame (Bit b)).state (called e s frame (Bit b)).frame (still_fits e s frame (Bit b) fits) (bit-silent e s frame b fits h).serial)
       ∙ ap (λ (m : ℕ). m ∷ replicate (length (map Bit bs)) 0) first
@@ -158,15 +159,15 @@ module _ (e : Seen) where
       one_or_bits
       (λ (calls : List Event). first_timeless s.control calls ≡ false → first_of_other_link s.link calls ≡ false → AllAccepted s frame calls)
       (kind_of r.kind) r.value
-      (λ call w h. ap (λ (m : ℕ). m ∷ []) (fitting_number e s frame fits call w ∙ ap (λ (x : Bool). if x then 5 else 0) h))
+      (λ call w h. ap (λ (m : ℕ). m ∷ []) (fitting_number e s frame fits call w ∙ ap (λ (x : Bool). when x then 5 else 0) h))
       (λ w h. bits_accepted (highest_first r.value) s frame fits (not-false (is_serial s.link) h))
 
   -- a record was accepted, or its first call is of the other link
-  number-tells : (x : Bool) (n : ℕ) → n ≡ (if x then 5 else 0) → n ≡ 0 → x ≡ false
+  number-tells : (x : Bool) (n : ℕ) → n ≡ (when x then 5 else 0) → n ≡ 0 → x ≡ false
   number-tells true n is z = absurd (omega arith)
   number-tells false n is z = refl
 
-  number-tells-not : (x : Bool) (n : ℕ) → n ≡ (if x then 5 else 0) → (n ≡ 0 → ⊥) → (x ≡ true) × (n ≡ 5)
+  number-tells-not : (x : Bool) (n : ℕ) → n ≡ (when x then 5 else 0) → (n ≡ 0 → ⊥) → (x ≡ true) × (n ≡ 5)
   number-tells-not true n is z = (refl, is)
   number-tells-not false n is z = absurd (z is)
 

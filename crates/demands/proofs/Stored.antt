@@ -1,12 +1,12 @@
 -- A word's two bytes, by what doing the writes leaves and counts: an address set leaves its place, and the rest is computed. Over any way
 -- the calls leave and count the same.
-use Prim.Native.Nat.{ℕ, ◌%◌, ◌≤◌, ◌<◌}
+use Prim.Native.Nat.{ℕ, ◌≤◌, ◌<◌}
 use mathlib.Core.Bool.{Bool, true, false, ◌&&◌, true≢false}
 use mathlib.Core.List.{List, [], ◌∷◌}
 use mathlib.Core.Path.{◌≡◌, refl, ap, ◌∙◌}
 use native.Mathlib.Omega.{arith}
 use Rattle.base.specs.Bits.{bits5_0, bits3_0}
-use Rattle.base.specs.Choice.{if◌then◌else◌}
+use Rattle.base.specs.Choice.{when◌then◌else◌}
 use Rattle.controller.specs.declared.Cell.TheVariants.{Nowhere, Word}
 use Rattle.controller.specs.declared.Time.{Time}
 use Rattle.controller.specs.declared.Control.{Control}
@@ -43,7 +43,7 @@ use Rattle.demands.proofs.KeepDl.{function_sets-keep-dl}
 
 -- what the first instruction counts
 waking : (v : View) (text : List ℕ) (standby : Bool) (r : Region) →
-    count_named wide v text (if standby && true then Whole else r) ≡ (if standby then 1024 else count_named wide v text r)
+    count_named wide v text (when standby && true then Whole else r) ≡ (when standby then 1024 else count_named wide v text r)
 unfolding count_named named
 waking v text true r = count-whole v text
 waking v text false r = refl
@@ -167,7 +167,7 @@ module _ (e : Seen) (frame : List ℕ) (m : Memories) (k : Control) (b c : ℕ) 
       ∙ rw (row, column)
       (ap (λ (n : ℕ). n ∷ more)
       (waking k.view m.text k.standby region.Nothing
-      ∙ ap (λ (n : ℕ). if k.standby then 1024 else n) (none-counted k.view m.text)))
+      ∙ ap (λ (n : ℕ). when k.standby then 1024 else n) (none-counted k.view m.text)))
 
 -- no function set is among these writes
 module _ (dl : Bool) (b c : ℕ) (p : b < 256) (q : c < 256) where

@@ -3,13 +3,12 @@ use Prim.{Unit}
 use Prim.Native.Nat.{ℕ, ◌≤◌, ◌%◌}
 use mathlib.Core.Bool.{Bool, true, false, not, ◌||◌, true≢false}
 use mathlib.Core.List.{List, [], ◌∷◌}
-use mathlib.Core.Logic.{◌≢◌}
 use mathlib.Core.Path.{◌≡◌, refl, sym, subst, ◌∙◌, ap}
 use native.Mathlib.Omega.{arith}
 use lib.ListN.{length, get_or}
 use lib.Dec.{eqb, ltb, leb}
 use borrow.Author.Tests.{eqb-true, eqb-false, ltb-true, ltb-false, leb-true, leb-false, not-true, not-false, eq-eqb, ne_eqb, le-ltb, le-leb, lt-leb}
-use Rattle.base.specs.Choice.{if◌then◌else◌}
+use Rattle.base.specs.Choice.{when◌then◌else◌}
 use Rattle.base.proofs.Choice.{either-told, by_test}
 use Rattle.base.proofs.Tests.{or_neither, and_both, never}
 use Rattle.sender.specs.Sender.{sent}
@@ -31,7 +30,7 @@ use Rattle.demands.specs.Demand1.{SenderSays, SendRefuses, Marked, Allowed, Reco
 
 -- the number of a call, from that of its buffers
 abbrev pub or_wants : Bool → Bool → ℕ → ℕ
-or_wants wants other n = if eqb n 0 then (if wants then 8 else if other then 5 else 0) else n
+or_wants wants other n = when eqb n 0 then (when wants then 8 else when other then 5 else 0) else n
 
 full-good : (e : Seen) → (not (eqb (length e.fonts.full % 32) 0) || ltb 281600 (length e.fonts.full)) ≡ false → GoodFullFont e
 full-good e d =

@@ -4,7 +4,7 @@ use Prim.Native.Nat.{ℕ}
 use mathlib.Core.Bool.{Bool, true, false, not, true≢false}
 use mathlib.Core.List.{List, [], ◌∷◌, ◌++◌, map}
 use mathlib.Core.Path.{◌≡◌, refl, ap, sym, ◌∙◌}
-use Rattle.base.specs.Choice.{if◌then◌else◌}
+use Rattle.base.specs.Choice.{when◌then◌else◌}
 use Rattle.controller.specs.declared.Control.{Control}
 use Rattle.controller.specs.Named.{covers}
 use Rattle.deeds.specs.Transfers.{performed}
@@ -31,7 +31,7 @@ pub admitted-timely :
     → called e s frame call ≡ unless_other e s frame (taken_on s call)
 admitted-timely e s frame call h w =
     admitted e s frame call h
-    ∙ ap (λ (x : Bool). if x then refused s frame 8 else unless_other e s frame (taken_on s call)) w
+    ∙ ap (λ (x : Bool). when x then refused s frame 8 else unless_other e s frame (taken_on s call)) w
 
 -- whether a deed is that time passes
 abbrev pub is_passed : Deed → Bool

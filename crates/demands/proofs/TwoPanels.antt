@@ -9,7 +9,7 @@ use mathlib.Core.Path.{◌≡◌, refl, sym, ap, subst, ◌∙◌}
 use lib.Dec.{eqb}
 use lib.ListN.{get_or}
 use borrow.Author.Tests.{eqb-true, eqb-false, eq-eqb, ne_eqb}
-use Rattle.base.specs.Choice.{if◌then◌else◌}
+use Rattle.base.specs.Choice.{when◌then◌else◌}
 use Rattle.base.proofs.Choice.{by_test}
 use Rattle.controller.specs.State.{InRange}
 use Rattle.events.specs.declared.Event.{Event}
@@ -127,7 +127,7 @@ each_named_bytes_shown w l r clocks i h v lt =
     let events = own_events w clocks in
     subst
     (λ (s : Stands). get_or s.frame i 0
-    ≡ (if ever_named x.seen x.state x.frame events i then get_or (picture_of x.seen s.state) i 0 else get_or x.frame i 0))
+    ≡ (when ever_named x.seen x.state x.frame events i then get_or (picture_of x.seen s.state) i 0 else get_or x.frame i 0))
     (sym (ends_as_alone w l r clocks h))
     (demand_3.shown x.seen x.state x.frame events i v (of_ready w l r (both_ready l r h)).fits lt)
 

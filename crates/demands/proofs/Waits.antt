@@ -14,7 +14,6 @@ use Rattle.time.specs.Time.{busy, elapsed}
 use Rattle.deeds.specs.Transfers.{Acted, performed}
 use Rattle.deeds.proofs.Kept.{performed-valid}
 use Rattle.deeds.proofs.Untimed.{performed_timed, not-busy}
-use Rattle.events.specs.declared.Deed.{Deed}
 use Rattle.events.specs.declared.Deed.TheVariants.{Pass}
 use Rattle.connector.specs.Items.{WholeWrite, Item, write, beside_wires, deed}
 use Rattle.connector.specs.Connector.{does}

@@ -1,12 +1,12 @@
 -- Without time nothing is lost and nothing costs: so each deed is what it was, and with it each call.
 use Prim.Native.Nat.{ℕ, ◌+◌, ◌-◌, ◌*◌}
-use mathlib.Core.Bool.{Bool, true, false, not, true≢false}
+use mathlib.Core.Bool.{Bool, false, not, true≢false}
 use mathlib.Core.List.{List}
 use mathlib.Core.Path.{◌≡◌, refl, ap, ◌∙◌}
 use native.Mathlib.Omega.{arith}
 use lib.Dec.{eqb, ltb}
 use borrow.Author.Tests.{ltb-false}
-use Rattle.base.specs.Choice.{if◌then◌else◌}
+use Rattle.base.specs.Choice.{when◌then◌else◌}
 use Rattle.controller.specs.declared.Control.{Control}
 use Rattle.controller.specs.declared.Time.{Time}
 use Rattle.controller.specs.declared.Region.TheVariants as region
@@ -50,7 +50,7 @@ module _ (m : Memories) (c : Control) (idle : busy c ≡ false) where
   carried-before (Write byte) = refl
   carried-before Status =
       let counted : 0 + c.place.counter ≡ c.place.counter = omega arith in
-      ap (λ (b : Bool). acted m (record { control = c; reply = (if b then 0x80 else 0) + c.place.counter; region = region.Nothing })) idle
+      ap (λ (b : Bool). acted m (record { control = c; reply = (when b then 0x80 else 0) + c.place.counter; region = region.Nothing })) idle
       ∙ ap (λ (n : ℕ). acted m (record { control = c; reply = n; region = region.Nothing })) counted
   carried-before Read = refl
 
@@ -73,7 +73,7 @@ module _ (m : Memories) (c : Control) (r : InRange c) (e : c.time.timed ≡ fals
 pub as_before_time : AsBeforeTime
 unfolding called called_before
 as_before_time e s frame call v u p =
-    ap (λ (k : Called). if eqb (lent_refusal e frame) 0 then k else refused s frame (lent_refusal e frame))
+    ap (λ (k : Called). when eqb (lent_refusal e frame) 0 then k else refused s frame (lent_refusal e frame))
     (in_time e s frame call p ∙ by (taken_on s call))
   where
     by : (t : Taken) → unless_other e s frame t ≡ unless_other_before e s frame t
@@ -83,4 +83,4 @@ as_before_time e s frame call v u p =
 pub no_time-passes : NoTimePasses
 no_time-passes e s frame value h u =
     admitted e s frame (Pass value) h
-    ∙ ap (λ (x : Bool). if not x then refused s frame 8 else unless_other e s frame (taken_on s (Pass value))) u
+    ∙ ap (λ (x : Bool). when not x then refused s frame 8 else unless_other e s frame (taken_on s (Pass value))) u

@@ -4,7 +4,7 @@
 -- named. With S at 0, so that no word shifts the display, a data transfer never names more than 64."
 -- Proved in proofs/, as `demand-3`.
 use Rattle.std.specs.Prelude.{ℕ, ◌≤◌, ◌<◌, Bool, true, false, ◌||◌, List, [], ◌∷◌, ◌≡◌, length, get_or}
-use Rattle.base.specs.Choice.{if◌then◌else◌}
+use Rattle.base.specs.Choice.{when◌then◌else◌}
 use Rattle.base.specs.Painting.{count}
 use Rattle.deeds.specs.Transfers.{Acted, performed}
 use Rattle.events.specs.declared.Event.{Event}
@@ -52,7 +52,7 @@ NamedBytesShown =
     → Fits e frame
     → i < 1024
     → get_or (after_calls e s frame calls).frame i 0
-    ≡ (if ever_named e s frame calls i then get_or (picture_of e (after_calls e s frame calls).state) i 0 else get_or frame i 0)
+    ≡ (when ever_named e s frame calls i then get_or (picture_of e (after_calls e s frame calls).state) i 0 else get_or frame i 0)
 
 -- and the frame keeps its length
 abbrev pub KeepsLength : Type 0

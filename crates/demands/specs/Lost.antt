@@ -1,7 +1,7 @@
 -- Request K1, "busy flag, with time", on demand 2: which transfers a busy panel loses, what a lost one leaves, and what every other one does.
 -- Each statement is proved in proofs/, under its own name in small letters (`LostLeavesAll` as `lost-leaves-all`).
 use Rattle.std.specs.Prelude.{ℕ, ◌+◌, ◌*◌, ◌-◌, ◌<◌, true, false, List, ◌↔◌, ◌≢◌, ◌≡◌}
-use Rattle.base.specs.Choice.{if◌then◌else◌}
+use Rattle.base.specs.Choice.{when◌then◌else◌}
 use Rattle.table.specs.declared.Instruction.TheVariants.{Ignored, Clear}
 use Rattle.table.specs.Table.{said}
 use Rattle.controller.specs.declared.Control.{Control}
@@ -113,7 +113,7 @@ StatusShowsBusy =
     ≡ record {
       state = s;
       number = 0;
-      reply = if busy s.control then 0x80 + s.control.place.counter else s.control.place.counter;
+      reply = when busy s.control then 0x80 + s.control.place.counter else s.control.place.counter;
       count = 0;
       frame = frame;
     }

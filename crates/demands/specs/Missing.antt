@@ -3,7 +3,7 @@
 -- `box-where-missing`).
 use Rattle.std.specs.Prelude.{ℕ, ◌+◌, ◌*◌, ◌-◌, ◌/◌, ◌%◌, ◌≤◌, ◌<◌, Bool, ◌||◌, List, [], map, ◌≡◌, eqb, length}
 use Rattle.base.specs.Bits.{bit}
-use Rattle.base.specs.Choice.{if◌then◌else◌}
+use Rattle.base.specs.Choice.{when◌then◌else◌}
 use Rattle.controller.specs.declared.View.{View}
 use Rattle.controller.specs.declared.Image.TheVariants as image
 use Rattle.controller.specs.Memories.{Memories, half}
@@ -67,7 +67,7 @@ HalvesNeverMissing =
     → image_of (lead_at m.text v row (column / 2)) (trail_at m.text v row (column / 2)) ≡ image.Nothing
     → lead_at m.text v row (column / 2) < 0xA1
     → cell_byte e m v row column
-    ≡ half_byte e.half (if right column then trail_at m.text v row (column / 2) else lead_at m.text v row (column / 2)) (shown_row v row % 16)
+    ≡ half_byte e.half (when right column then trail_at m.text v row (column / 2) else lead_at m.text v row (column / 2)) (shown_row v row % 16)
 
 -- all that a call leaves but the frame
 abbrev pub but_frame : Called → Answered

@@ -3,7 +3,7 @@
 -- other byte of any memory changes; and each write counts the bytes that document 01 names for it. Proved in proofs/, as `words-stored`.
 use Rattle.std.specs.Prelude.{ℕ, ◌≤◌, ◌<◌, Bool, true, false, List, [], ◌∷◌, ◌≡◌, set}
 use Rattle.base.specs.Bits.{bits5_0, bits3_0}
-use Rattle.base.specs.Choice.{if◌then◌else◌}
+use Rattle.base.specs.Choice.{when◌then◌else◌}
 use Rattle.controller.specs.declared.Cell.TheVariants.{Nowhere, Word}
 use Rattle.controller.specs.declared.Region.{Region}
 use Rattle.controller.specs.declared.Region.TheVariants.{Cells, GlyphHalf, GraphicHalf}
@@ -45,7 +45,7 @@ size_on s region = count_named wide s.control.view s.memories.text region
 
 -- all 1,024 where an instruction ends standby, or a text word completes with S = 1
 abbrev pub all_if : Bool → ℕ → ℕ
-all_if all size = if all then 1024 else size
+all_if all size = when all then 1024 else size
 
 -- what an address and two bytes name. Text: the counter's cell before and after; the word's cell; the word's cell and, as the counter
 -- steps, the new word's

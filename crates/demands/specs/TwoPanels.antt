@@ -3,7 +3,7 @@
 -- and demand 3 holds for each." What the pair refuses is in Demand1; what a bit and a select-low do to one panel, in Demand2.
 -- Proved in proofs/, as `two-panels`.
 use Rattle.std.specs.Prelude.{ℕ, ◌≤◌, ◌<◌, ◌/◌, ◌%◌, ◌^◌, true, false, List, [], ◌∷◌, map, ◌≢◌, ◌≡◌, get_or}
-use Rattle.base.specs.Choice.{if◌then◌else◌}
+use Rattle.base.specs.Choice.{when◌then◌else◌}
 use Rattle.base.specs.Painting.{count}
 use Rattle.events.specs.declared.Event.{Event}
 use Rattle.events.specs.declared.Event.TheVariants.{Bit, SelectLow}
@@ -30,7 +30,7 @@ of the_right l r = r
 
 -- the event that a clock is to a panel: the bit where its select is high, a select-low where it is low
 abbrev pub own_event : Which → Clock → Event
-own_event w clock = if of w clock.left clock.right then Bit clock.bit else SelectLow
+own_event w clock = when of w clock.left clock.right then Bit clock.bit else SelectLow
 
 abbrev pub own_events : Which → List Clock → List Event
 own_events w clocks = map (own_event w) clocks
@@ -134,7 +134,7 @@ EachNamedBytesShown =
     → i < 1024
     → let x = of w l r in
     get_or (after_clocks w l r clocks).frame i 0
-    ≡ (if ever_named x.seen x.state x.frame (own_events w clocks) i
+    ≡ (when ever_named x.seen x.state x.frame (own_events w clocks) i
     then get_or (picture_of x.seen (after_clocks w l r clocks).state) i 0
     else get_or x.frame i 0)
 

@@ -16,7 +16,7 @@ use Rattle.links.specs.Halves.{writing}
 use Rattle.links.specs.Taken.{taken_by}
 use Rattle.events.specs.declared.Transfer.{Transfer}
 use Rattle.events.specs.declared.Transfer.TheVariants.{Instruct, Write, Status, Read}
-use Rattle.connector.specs.Items.{WholeWrite, Beside, Item, write, beside_wires, deed, Way, whole_bytes, halves, serial, wires}
+use Rattle.connector.specs.Items.{WholeWrite, Item, write, beside_wires, deed, Way, whole_bytes, halves, serial, wires}
 use Rattle.connector.specs.Connector.{Performed, Controller, does}
 use Rattle.picture.specs.Picture.{Seen, look_of, wide}
 use Rattle.repaint.specs.Repaint.{repainted, count_named}

@@ -1,7 +1,7 @@
 -- Request K1 left what there was: a panel without time does what a panel does that knows nothing of time.
 -- Each statement is proved in proofs/, under its own name in small letters (`AsBeforeTime` as `as-before-time`).
 use Rattle.std.specs.Prelude.{ℕ, Bool, true, false, List, ◌≡◌, eqb}
-use Rattle.base.specs.Choice.{if◌then◌else◌}
+use Rattle.base.specs.Choice.{when◌then◌else◌}
 use Rattle.controller.specs.declared.Control.{Control}
 use Rattle.controller.specs.declared.Region.TheVariants as region
 use Rattle.controller.specs.Memories.{Memories}
@@ -51,7 +51,7 @@ unless_other_before e s frame (Carries c) = accepted e frame (performed_before s
 -- a call: refusals 1, 2, 3 in their order, then 5
 unfoldable pub called_before : Seen → State → List ℕ → Event → Called
 called_before e s frame call =
-    if eqb (lent_refusal e frame) 0
+    when eqb (lent_refusal e frame) 0
     then unless_other_before e s frame (taken_on s call)
     else refused s frame (lent_refusal e frame)
 

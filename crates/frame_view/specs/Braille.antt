@@ -1,6 +1,6 @@
 -- The glass for a terminal: Braille characters of 2 by 4 dots, 128 to a line, in 8 lines, with a line drawn around them.
 use Rattle.std.specs.Prelude.{ℕ, ◌+◌, ◌*◌, ◌-◌, ◌/◌, ◌%◌, List, eqb}
-use Rattle.base.specs.Choice.{if◌then◌else◌}
+use Rattle.base.specs.Choice.{when◌then◌else◌}
 use Rattle.base.specs.Lists.{upto}
 use Rattle.frame_view.specs.Dots.{dot_at}
 
@@ -16,26 +16,26 @@ braille_at frame x y =
 
 -- at either end of a line one character, and between them another
 abbrev pub line_of : ℕ → ℕ → ℕ → ℕ → ℕ
-line_of left middle right column = if eqb column 0 then left else if eqb column 129 then right else middle
+line_of left middle right column = when eqb column 0 then left else when eqb column 129 then right else middle
 
 -- the character at a column of 130 of one of ten lines: ┌─┐ above, └─┘ below, │ at the sides
 unfoldable pub character : List ℕ → ℕ → ℕ → ℕ
 character frame line column =
-    if eqb line 0 then line_of 0x250C 0x2500 0x2510 column
-    else if eqb line 9 then line_of 0x2514 0x2500 0x2518 column
+    when eqb line 0 then line_of 0x250C 0x2500 0x2510 column
+    else when eqb line 9 then line_of 0x2514 0x2500 0x2518 column
     else line_of 0x2502 (braille_at frame (2 * (column - 1)) (4 * (line - 1))) 0x2502 column
 
 -- byte n of the three that a character from U+0800 to U+FFFF has in UTF-8
 unfoldable pub utf8 : ℕ → ℕ → ℕ
 utf8 c n =
-    if eqb n 0 then 0xE0 + c / 4096
-    else if eqb n 1 then 0x80 + c / 64 % 64
+    when eqb n 0 then 0xE0 + c / 4096
+    else when eqb n 1 then 0x80 + c / 64 % 64
     else 0x80 + c % 64
 
 -- a line is 130 characters and a line feed, 391 bytes
 unfoldable pub text_at : List ℕ → ℕ → ℕ
 text_at frame i =
-    if eqb (i % 391) 390 then 0x0A
+    when eqb (i % 391) 390 then 0x0A
     else utf8 (character frame (i / 391) (i % 391 / 3)) (i % 391 % 3)
 
 unfoldable pub braille : List ℕ → List ℕ

@@ -8,7 +8,7 @@ use native.Mathlib.Nat.{le_antisymm}
 use lib.ListN.{length, get_or}
 use lib.Dec.{eqb}
 use borrow.Author.Tests.{eqb-true, ne_eqb}
-use Rattle.base.specs.Choice.{if◌then◌else◌}
+use Rattle.base.specs.Choice.{when◌then◌else◌}
 use Rattle.base.specs.Lists.{upto}
 use Rattle.base.specs.Painting.{painted, count}
 use Rattle.base.specs.Layout.{Layout, on, whole_on, painted_on, count_on}
@@ -18,7 +18,7 @@ use Rattle.base.proofs.Counting.{count_cong, count-one, count_none, count_disjoi
 use Rattle.glass.specs.Frames.{wide, wide_place, through, OneToOne, Onto}
 
 -- a map that is one to one finds no more places than there are
-without : (n a : ℕ) (P : ℕ → Bool) → a < n → count n P ≡ count n (λ i. P i && not (eqb i a)) + (if P a then 1 else 0)
+without : (n a : ℕ) (P : ℕ → Bool) → a < n → count n P ≡ count n (λ i. P i && not (eqb i a)) + (when P a then 1 else 0)
 without n a P h =
     count_cong n P (λ i. (P i && not (eqb i a)) || (P a && eqb i a)) (λ i l. split i (eqb i a) refl)
     ∙ count_disjoint n (λ i. P i && not (eqb i a)) (λ i. P a && eqb i a) (λ i l. apart (P i) (P a) (eqb i a))
@@ -46,7 +46,7 @@ without n a P h =
     apart true false false = refl
     apart false q t = refl
 
-    alone : (q : Bool) → count n (λ i. q && eqb i a) ≡ (if q then 1 else 0)
+    alone : (q : Bool) → count n (λ i. q && eqb i a) ≡ (when q then 1 else 0)
     alone true = count-one n a h
     alone false = count_none n _ (λ i l. refl)
 
@@ -70,10 +70,10 @@ painted-moved : (m : ℕ → ℕ) (n : ℕ) (P : ℕ → Bool) (b : ℕ → ℕ)
     → painted (λ i. P (m i)) (λ i. b (m i)) (upto n (λ i. get_or f (m i) 0)) ≡ upto n (λ i. get_or (painted P b f) (m i) 0)
 unfolding painted
 painted-moved m n P b f inside =
-    ap (λ (k : ℕ). upto k (λ i. if P (m i) then b (m i) else get_or (upto n (λ i. get_or f (m i) 0)) i 0)) (length-upto n (λ i. get_or f (m i) 0))
+    ap (λ (k : ℕ). upto k (λ i. when P (m i) then b (m i) else get_or (upto n (λ i. get_or f (m i) 0)) i 0)) (length-upto n (λ i. get_or f (m i) 0))
     ∙ upto_cong n _ _
-    (λ i h. ap (λ (k : ℕ). if P (m i) then b (m i) else k) (get_or-upto n (λ i. get_or f (m i) 0) i h)
-    ∙ sym (get_or-upto (length f) (λ i. if P i then b i else get_or f i 0) (m i) (inside i h)))
+    (λ i h. ap (λ (k : ℕ). when P (m i) then b (m i) else k) (get_or-upto n (λ i. get_or f (m i) 0) i h)
+    ∙ sym (get_or-upto (length f) (λ i. when P i then b i else get_or f i 0) (m i) (inside i h)))
 
 module _ (l : Layout) (o : OneToOne l) where
   pub wide-inside : (i : ℕ) → i < l.size → wide_place l i < 1024

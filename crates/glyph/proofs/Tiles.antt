@@ -1,18 +1,16 @@
 -- Tiles: two bytes to a row, from a block, from two columns, row by row.
 use Prim.Native.Nat.{ℕ, zero, ◌+◌, ◌*◌, ◌-◌, ◌/◌, ◌%◌, ◌<◌}
-use mathlib.Core.Path.{◌≡◌, refl, sym, ap, ap₂, ◌∙◌}
+use mathlib.Core.Path.{◌≡◌, sym, ap, ap₂, ◌∙◌}
 use mathlib.Core.Logic.{◌≢◌}
 use mathlib.Core.Bool.{Bool, true, false}
 use mathlib.Core.List.{List}
 use native.Mathlib.Omega.{arith}
 use lib.ListN.{length, get_or, set, replicate}
-use lib.Dec.{leb}
-use borrow.Author.Tests.{eqb-true, eqb-false, eq-eqb, ne_eqb, leb-true}
+use borrow.Author.Tests.{eqb-true, eqb-false, eq-eqb, ne_eqb}
 use Rattle.base.specs.Lists.{upto}
 use Rattle.base.specs.Painting.{painted, everywhere, between}
 use Rattle.base.proofs.Choice.{by_test}
-use Rattle.base.proofs.Tests.{and_both}
-use Rattle.base.proofs.Lists.{get_or-upto, upto_cong, is-upto}
+use Rattle.base.proofs.Lists.{get_or-upto, upto_cong}
 use Rattle.base.proofs.Copies.{two_further, stretch_cong, blocks_laid}
 use Rattle.controller.specs.Memories.{half}
 use Rattle.glyph.specs.declared.Content.TheVariants.{Image, Full, Halves}
@@ -88,11 +86,3 @@ zeros-at j l = get_or-upto 16 (λ i. 0) j l
 pub column-shown : (halves : List ℕ) (c : ℕ) → has_half c ≡ true → upto 16 (λ y. get_or halves (16 * c + y) 0) ≡ upto 16 (half_byte halves c)
 unfolding half_byte
 column-shown halves c t = upto_cong 16 _ _ (λ y l. rw t)
-
-pub column_blank : (halves : List ℕ) (c : ℕ) → has_half c ≡ false → replicate 16 zero ≡ upto 16 (half_byte halves c)
-unfolding half_byte
-column_blank halves c t = is-upto 16 _ (replicate 16 0) refl (λ y l. zeros-at y l ∙ rw t)
-
--- a half glyph lies inside its font
-pub code_inside : (c : ℕ) → has_half c ≡ true → c < 128
-code_inside c t = let a = leb-true c 0x7F (and_both (leb 0x02 c) (leb c 0x7F) t).1 in omega arith

@@ -1,7 +1,7 @@
 -- Document 01, "The picture", and request K6: what a text word shows. This layer knows that a code has a number, and the full font's length;
 -- the numbering is handed on.
 use Rattle.std.specs.Prelude.{ℕ, ◌+◌, ◌*◌, leb}
-use Rattle.base.specs.Choice.{if◌then◌else◌}
+use Rattle.base.specs.Choice.{when◌then◌else◌}
 use Rattle.events.specs.declared.Numbering.{Numbering}
 use Rattle.controller.specs.Glass.{image_of}
 use Rattle.controller.specs.declared.Image as image
@@ -16,11 +16,11 @@ use Rattle.numbering.specs.Numbering.{number_of}
 -- and missing, where the code is allowed but not in the lent font
 unfoldable pub full_of : Code → ℕ → Content
 full_of Unnumbered length = Blank
-full_of (Number i) length = if leb (32 * i + 32) length then Full i else Missing
+full_of (Number i) length = when leb (32 * i + 32) length then Full i else Missing
 
 -- high byte A1h or more: full glyph; otherwise each byte by itself
 unfoldable pub font_of : Numbering → ℕ → ℕ → ℕ → Content
-font_of n high low length = if leb 0xA1 high then full_of (number_of n high low) length else Halves high low
+font_of n high low length = when leb 0xA1 high then full_of (number_of n high low) length else Halves high low
 
 -- the image, or what the fonts give
 abbrev pub image_or : image.Image → Content → Content

@@ -2,7 +2,7 @@
 -- one after the other, two bytes to a row.
 use Prim.{Unit}
 use Rattle.std.specs.Prelude.{ℕ, ◌+◌, ◌*◌, ◌/◌, ◌%◌, ◌<◌, ◌≤◌, Bool, List, get_or, eqb}
-use Rattle.base.specs.Choice.{if◌then◌else◌}
+use Rattle.base.specs.Choice.{when◌then◌else◌}
 use Rattle.glyph.specs.declared.Content.{Content}
 use Rattle.glyph.specs.declared.Content.TheVariants.{Image, Full, Halves, Missing, Blank}
 use Rattle.glyph.specs.Dots.{dots_of}
@@ -25,4 +25,4 @@ tile_dots halves fulls glyph c j = dots_of halves fulls glyph c (j / 2) (odd j)
 
 -- byte j of two columns side by side
 abbrev pub beside : List ℕ → List ℕ → ℕ → ℕ
-beside left right j = get_or (if odd j then right else left) (j / 2) 0
+beside left right j = get_or (when odd j then right else left) (j / 2) 0

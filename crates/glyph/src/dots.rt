@@ -1,6 +1,6 @@
 // One byte of the dots of what a cell shows.
 ghost use Rattle.std.specs.Prelude.{◌≡◌, ◌+◌, ◌*◌, ◌<◌, ◌≤◌, length};
-ghost use Rattle.base.specs.Choice.{if◌then◌else◌};
+ghost use Rattle.base.specs.Choice.{when◌then◌else◌};
 ghost use Rattle.glyph.specs.Dots.{image_byte, full_byte, half_byte, box_byte, dots_of};
 ghost use Rattle.glyph.specs.Tiles.{Inside};
 
@@ -42,7 +42,7 @@ fn half_byte(code: u8, y: usize, half: &[u8]) -> u8
 
 // The code of one of two half glyphs.
 fn code_of(high: u8, low: u8, right: bool) -> u8
-    ensures { result ≡ (if right then low else high) }
+    ensures { result ≡ (when right then low else high) }
 {
     if right { low } else { high }
 }

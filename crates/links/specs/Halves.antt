@@ -1,7 +1,7 @@
 -- Document 01, "Links": the parallel link with DL = 0, where half bytes are paired.
 use Rattle.std.specs.Prelude.{ℕ, ◌+◌, ◌*◌, Bool, true, false}
 use Rattle.std.specs.Bool.{beq}
-use Rattle.base.specs.Choice.{if◌then◌else◌}
+use Rattle.base.specs.Choice.{when◌then◌else◌}
 use Rattle.base.specs.Bits.{bits7_4, bits3_0, raised}
 use Rattle.events.specs.declared.Transfer.{Transfer}
 use Rattle.events.specs.declared.Transfer.TheVariants.{Instruct, Write, Status, Read}
@@ -42,14 +42,14 @@ hands_over reply = record { deed = Nothing; rest = Handed reply }
 unfoldable pub write_half : Pairing → Bool → ℕ → Carried
 write_half Empty register value = kept register (bits7_4 value)
 write_half (Upper was upper) register value =
-    if beq was register then acts (writing register (joined upper (bits7_4 value))) else kept register (bits7_4 value)
+    when beq was register then acts (writing register (joined upper (bits7_4 value))) else kept register (bits7_4 value)
 write_half (Lower was lower) register value = kept register (bits7_4 value)
 
 -- a read acts at its first; its second half only hands over the low four bits of the same answer
 unfoldable pub read_half : Pairing → Bool → Carried
 read_half Empty register = acts (reading register)
 read_half (Upper was upper) register = acts (reading register)
-read_half (Lower was lower) register = if beq was register then hands_over (raised lower) else acts (reading register)
+read_half (Lower was lower) register = when beq was register then hands_over (raised lower) else acts (reading register)
 
 -- one half-byte transfer: if the second differs from the first in kind, the first is dropped and the new one is a first
 unfoldable pub paired : Pairing → Transfer → Carried

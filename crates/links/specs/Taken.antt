@@ -1,6 +1,6 @@
 -- Document 01, "Links": what a link makes of an event: what of it reaches the controller, and how the controller's answer goes back.
 use Rattle.std.specs.Prelude.{ℕ, Bool}
-use Rattle.base.specs.Choice.{if◌then◌else◌}
+use Rattle.base.specs.Choice.{when◌then◌else◌}
 use Rattle.events.specs.declared.Transfer.{Transfer}
 use Rattle.events.specs.declared.Event.{Event}
 use Rattle.events.specs.declared.Event.TheVariants as event
@@ -29,7 +29,7 @@ stays deed link = record { deed = deed; rest = Stays link }
 
 -- parallel, DL = 1: one transfer, one byte; DL = 0: half bytes
 unfoldable pub by_width : Bool → Pairing → Transfer → Carried
-by_width dl pairing t = if dl then stays (Whole t) (Parallel pairing) else paired pairing t
+by_width dl pairing t = when dl then stays (Whole t) (Parallel pairing) else paired pairing t
 
 -- a transfer is of the parallel link
 abbrev pub transfer_taken : Bool → Link → Transfer → Taken

@@ -1,6 +1,6 @@
 -- Request K6: which glyph is missing, of the present screen.
 use Rattle.std.specs.Prelude.{ℕ, ◌*◌, ◌-◌, ◌%◌, true, false, List, get_or, eqb, ltb}
-use Rattle.base.specs.Choice.{if◌then◌else◌}
+use Rattle.base.specs.Choice.{when◌then◌else◌}
 use Rattle.controller.specs.declared.View.{View}
 use Rattle.controller.specs.Memories.{word_place}
 use Rattle.controller.specs.Glass.{shown_word}
@@ -12,7 +12,7 @@ use Rattle.missing.specs.declared.Lacks.TheVariants.{Nothing, Code}
 
 -- the glass in bands, the rows that show one line of text: the first row of band b, or 32 where the glass ends before it
 unfoldable pub band_row : View → ℕ → ℕ
-band_row v b = if eqb b 0 then 0 else if ltb (16 * b - v.scroll % 16) 32 then 16 * b - v.scroll % 16 else 32
+band_row v b = when eqb b 0 then 0 else when ltb (16 * b - v.scroll % 16) 32 then 16 * b - v.scroll % 16 else 32
 
 -- the code of a word with these two bytes, where what it shows is the box of a missing glyph
 unfoldable pub code_if_missing : Content → ℕ → ℕ → Lacks

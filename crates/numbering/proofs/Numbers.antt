@@ -5,7 +5,7 @@ use mathlib.Core.Path.{◌≡◌, ap}
 use native.Mathlib.Omega.{arith}
 use lib.Dec.{leb, ltb}
 use borrow.Author.Tests.{leb-true, leb-false, le-leb, lt-leb, ltb-true, ltb-false, not-false}
-use Rattle.base.specs.Choice.{if◌then◌else◌}
+use Rattle.base.specs.Choice.{when◌then◌else◌}
 use Rattle.base.proofs.Choice.{either, either-told, by_test}
 use Rattle.base.proofs.Tests.{and_both}
 use Rattle.events.specs.declared.Numbering.{Numbering}
@@ -21,7 +21,7 @@ lead_of By160 i = 0xA1 + i / 160
 
 abbrev pub trail_of : Numbering → ℕ → ℕ
 trail_of By96 i = 0xA0 + i % 96
-trail_of By160 i = if ltb (i % 160) 64 then 0x40 + i % 160 else 0xA0 + (i % 160 - 64)
+trail_of By160 i = when ltb (i % 160) 64 then 0x40 + i % 160 else 0xA0 + (i % 160 - 64)
 
 -- the code that has a number is that one, and the number is none beyond the last
 pub record ReadBack (n : Numbering) (lead trail i : ℕ) : Type 0 where

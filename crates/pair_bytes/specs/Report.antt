@@ -1,6 +1,6 @@
 -- What a clock of the wire leaves where a board keeps the two panels as bytes.
 use Rattle.std.specs.Prelude.{ℕ, ◌+◌, ◌*◌, ◌^◌, List, eqb}
-use Rattle.base.specs.Choice.{if◌then◌else◌}
+use Rattle.base.specs.Choice.{when◌then◌else◌}
 use Rattle.controller.specs.Memories.{Memories}
 use Rattle.picture.specs.Picture.{Seen}
 use Rattle.calls.specs.State.{state}
@@ -27,7 +27,7 @@ spelled_side e b = side e (state b.memories (unpacked b.control) (unpacked_link 
 -- what a call leaves, as bytes; a refusal leaves these as they were
 abbrev pub bytes_after : SideBytes → Called → SideBytes
 bytes_after b k =
-    if eqb k.number 0
+    when eqb k.number 0
     then side_bytes k.state.memories (packed k.state.control) (link_packed k.state.link) k.frame
     else b
 

@@ -13,7 +13,6 @@ use state_bytes::{pack, pack_link};
 use unpacking::{unpack, unpack_link};
 
 // What a panel keeps beside its memories, from its bytes.
-#[tactic(auto, unfolding(state_bytes::specs::Packed::unpacked, state_bytes::specs::LinkPacked::unpacked_link))]
 fn kept(control: &[u8; 27], link: &[u8; 10]) -> Kept
     ensures { result ≡ record { control = unpacked control.entry.now; link = unpacked_link link.now } }
 {
@@ -23,7 +22,6 @@ fn kept(control: &[u8; 27], link: &[u8; 10]) -> Kept
 }
 
 // And as its bytes.
-#[tactic(auto, unfolding(state_bytes::specs::Packed::packed))]
 fn put(kept: Kept, control: &mut [u8; 27], link: &mut [u8; 10])
     ensures { (control.new ≡ packed kept.control) × (link.new ≡ link_packed kept.link) }
 {

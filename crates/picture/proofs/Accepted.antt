@@ -5,7 +5,7 @@ use mathlib.Core.Bool.{not, ◌||◌}
 use mathlib.Core.List.{List}
 use native.Mathlib.Omega.{arith}
 use lib.Dec.{eqb, ltb}
-use borrow.Author.Tests.{eqb-true, ltb-false, not-false, eq-eqb, ne_eqb}
+use borrow.Author.Tests.{eqb-true, ltb-false, not-false, eq-eqb}
 use Rattle.base.proofs.Choice.{either-told}
 use Rattle.base.proofs.Tests.{or_neither}
 use Rattle.controller.specs.declared.Control.{Control}
@@ -37,7 +37,3 @@ module _ (e : Seen) (m : Memories) (c : Control) (frame : List ℕ) where
   pub draws : Fits e frame → drawn e m c frame ≡ drawing 0 (pictured e m c)
   unfolding drawn
   draws h = rw (eq-eqb (lent_refusal e frame) 0 h)
-
-  pub refuses : (n : ℕ) → n ≡ lent_refusal e frame → (n ≡ 0 → ⊥) → drawn e m c frame ≡ drawing n frame
-  unfolding drawn
-  refuses n h k = rw (← h, ne_eqb n 0 k)

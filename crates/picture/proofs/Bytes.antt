@@ -1,13 +1,12 @@
 -- Single bytes of the picture, as the code finds them.
 use Prim.Native.Nat.{ℕ, ◌+◌, ◌*◌, ◌/◌, ◌%◌, ◌<◌}
 use mathlib.Core.Path.{◌≡◌, refl}
-use mathlib.Core.Bool.{Bool, true, false, ◌&&◌}
+use mathlib.Core.Bool.{Bool, false, ◌&&◌}
 use mathlib.Core.List.{List}
 use native.Mathlib.Omega.{arith}
 use lib.ListN.{length, get_or}
 use lib.Dec.{eqb}
 use borrow.Author.Tests.{ne_eqb}
-use Rattle.base.specs.Choice.{if◌then◌else◌}
 use Rattle.events.specs.declared.Numbering.{Numbering}
 use Rattle.controller.specs.declared.Cell.{Cell}
 use Rattle.controller.specs.declared.Cell.TheVariants.{Nowhere, Word}
@@ -42,10 +41,6 @@ graphic-column s column = let h = half-right column in omega arith
 
 -- with everything over the dots, step by step; nothing shows in the dark
 module _ (look : Look) (row column : ℕ) where
-  pub dark-byte : (graphic : List ℕ) (dots : ℕ) → look.dark ≡ true → 0x00 ≡ byte_over dots graphic look row column
-  unfolding byte_over
-  dark-byte graphic dots dark = rw dark
-
   pub over_dots : (graphic : List ℕ) (s word counter dots marked lined r : ℕ) (cursor : Bool)
       → s ≡ shown_row look.view row
       → word ≡ shown_word look.view row (column / 2)

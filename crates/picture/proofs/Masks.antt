@@ -1,11 +1,11 @@
 -- Filling, inverting and overlaying by a mask of all ones or none.
 use Prim.Native.Nat.{ℕ, ◌+◌, ◌*◌, ◌-◌, ◌%◌, ◌<◌}
-use mathlib.Core.Path.{◌≡◌, ap, ◌∙◌}
+use mathlib.Core.Path.{◌≡◌}
 use mathlib.Core.Bool.{Bool, true, false}
 use native.Mathlib.Omega.{arith}
-use lib.Bits.{bit_and, bit_or, bit_xor, and_mask, and_zero_r, or_add_and, or_zero_r, xor_add_and, xor_zero_r}
-use Rattle.base.specs.Choice.{if◌then◌else◌}
-use Rattle.picture.specs.Picture.{filled, inverted, overlaid}
+use lib.Bits.{bit_and, bit_or, bit_xor, and_mask, or_add_and, or_zero_r, xor_add_and, xor_zero_r}
+use Rattle.base.specs.Choice.{when◌then◌else◌}
+use Rattle.picture.specs.Picture.{filled, inverted}
 
 and_ones : (x : ℕ) → x < 256 → bit_and x 0xFF ≡ x
 and_ones x h = let m : bit_and x 0xFF ≡ x % 256 = and_mask x 8 in omega arith
@@ -22,15 +22,11 @@ xor_ones x h =
     let s : bit_xor x 0xFF + bit_and x 0xFF * 2 ≡ x + 0xFF = xor_add_and x 0xFF in
     omega arith
 
-pub mask_inverts : (on : Bool) (x : ℕ) → x < 256 → bit_xor x (if on then 0xFF else 0x00) ≡ inverted on x
+pub mask_inverts : (on : Bool) (x : ℕ) → x < 256 → bit_xor x (when on then 0xFF else 0x00) ≡ inverted on x
 mask_inverts true x h = xor_ones x h
 mask_inverts false x h = xor_zero_r x
 
-pub mask_overlays : (on : Bool) (dots x : ℕ) → dots < 256 → bit_xor x (bit_and dots (if on then 0xFF else 0x00)) ≡ overlaid on dots x
-mask_overlays true dots x h = ap (bit_xor x) (and_ones dots h)
-mask_overlays false dots x h = ap (bit_xor x) (and_zero_r dots) ∙ xor_zero_r x
-
 pub masks_mark : (cursor blink : Bool) (x : ℕ) → x < 256
-    → bit_xor (bit_or x (if cursor then 0xFF else 0x00)) (if blink then 0xFF else 0x00) ≡ inverted blink (filled cursor x)
+    → bit_xor (bit_or x (when cursor then 0xFF else 0x00)) (when blink then 0xFF else 0x00) ≡ inverted blink (filled cursor x)
 masks_mark true blink x h = rw (or_ones x h) (mask_inverts blink 0xFF (omega arith))
 masks_mark false blink x h = rw (or_zero_r x) (mask_inverts blink x h)

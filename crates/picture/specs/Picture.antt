@@ -2,7 +2,7 @@
 -- glyph, cursor, blink, line reverse, graphic, display.
 use Rattle.std.specs.Prelude.{ℕ, ◌-◌, ◌/◌, ◌%◌, Bool, true, false, not, ◌&&◌, ◌||◌, List, length, get_or, eqb}
 use Rattle.std.specs.Int.Bits.{bit_xor}
-use Rattle.base.specs.Choice.{if◌then◌else◌}
+use Rattle.base.specs.Choice.{when◌then◌else◌}
 use Rattle.base.specs.Layout.{Layout, whole_on}
 use Rattle.events.specs.declared.Numbering.{Numbering}
 use Rattle.controller.specs.declared.View.{View}
@@ -72,15 +72,15 @@ at_counter (Word counter) word = eqb word counter
 
 -- sets
 abbrev pub filled : Bool → ℕ → ℕ
-filled on byte = if on then 0xFF else byte
+filled on byte = when on then 0xFF else byte
 
 -- inverts
 abbrev pub inverted : Bool → ℕ → ℕ
-inverted on byte = if on then 0xFF - byte else byte
+inverted on byte = when on then 0xFF - byte else byte
 
 -- exclusive or
 abbrev pub overlaid : Bool → ℕ → ℕ → ℕ
-overlaid on dots byte = if on then bit_xor byte dots else byte
+overlaid on dots byte = when on then bit_xor byte dots else byte
 
 -- byte `column` of row `row` of the glass, where its cell has these dots. Then, in the counter's cell (here), cursor sets glyph row 15 and
 -- blink inverts; then line reverse inverts; then exclusive or with the graphic; all zero where dark
@@ -88,7 +88,7 @@ unfoldable pub byte_over : ℕ → List ℕ → Look → ℕ → ℕ → ℕ
 byte_over dots graphic look row column =
     let s = shown_row look.view row in
     let here = at_counter look.counter (shown_word look.view row (column / 2)) in
-    if look.dark then 0x00
+    when look.dark then 0x00
     else overlaid look.graphic (graphic_byte graphic look.view row column)
     (inverted (get_or look.view.reversed (s / 16) false)
     (inverted (here && look.blink)

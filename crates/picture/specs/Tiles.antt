@@ -1,7 +1,7 @@
 -- No sentence of document 01, but what the contracts of the code promise: the bytes of a cell's sixteen rows at once, its tile, and a line's
 -- sixteen tiles one after the other. proofs/Laid.antt shows that they are the bytes of the picture before the graphic.
 use Rattle.std.specs.Prelude.{ℕ, ◌+◌, ◌*◌, ◌-◌, ◌/◌, ◌%◌, Bool, true, false, ◌&&◌, ◌||◌, List, length, get_or, set, eqb, ltb}
-use Rattle.base.specs.Choice.{if◌then◌else◌}
+use Rattle.base.specs.Choice.{when◌then◌else◌}
 use Rattle.base.specs.Painting.{painted, everywhere, between}
 use Rattle.base.specs.Layout.{rows}
 use Rattle.events.specs.declared.Numbering.{Numbering}
@@ -54,7 +54,7 @@ from_tiles tiles y i = get_or tiles (32 * (i % 32 / 2) + 2 * y + i % 2) 0
 
 -- the row after those that show the same line as row `row`, which shows memory row s
 unfoldable pub band_end : ℕ → ℕ → ℕ
-band_end row s = if ltb (row + 16 - s % 16) 32 then row + 16 - s % 16 else 32
+band_end row s = when ltb (row + 16 - s % 16) 32 then row + 16 - s % 16 else 32
 
 -- every byte of the rows from `first` up to `end`
 abbrev pub in_rows : ℕ → ℕ → ℕ → ℕ → Bool
@@ -63,7 +63,7 @@ in_rows first end = rows first end (λ r c. true)
 -- byte `column` of row `row` of the glass, by the tile of its cell
 unfoldable pub shown_by : List ℕ → List ℕ → Look → ℕ → ℕ → ℕ
 shown_by tile graphic look row column =
-    if look.dark then 0x00
+    when look.dark then 0x00
     else overlaid look.graphic (graphic_byte graphic look.view row column) (get_or tile (2 * (shown_row look.view row % 16) + column % 2) 0)
 
 -- one row of a cell: its two bytes, by the tile; two bytes stored at a place of a frame and at the next; and which bytes of the glass they are

@@ -1,6 +1,6 @@
 // Cursor, blink, line reverse, graphic and display, in document 01's order.
 ghost use Rattle.std.specs.Prelude.{◌≡◌, ◌&&◌, ◌||◌, not};
-ghost use Rattle.base.specs.Choice.{if◌then◌else◌};
+ghost use Rattle.base.specs.Choice.{when◌then◌else◌};
 ghost use Rattle.picture.specs.Picture.{filled, inverted, overlaid};
 ghost use Rattle.picture.specs.Tiles.{counter_word};
 
@@ -32,7 +32,7 @@ pub fn counter_word(cell: Cell) -> u32
 
 // All ones or none: filling, inverting and overlaying by such masks has no branch, and a whole draw takes a fifth less time for it.
 fn mask(on: bool) -> u8
-    ensures { result ≡ (if on then 0xFF else 0x00) }
+    ensures { result ≡ (when on then 0xFF else 0x00) }
 {
     if on { 0xFF } else { 0x00 }
 }
@@ -58,7 +58,7 @@ pub(crate) fn mark(here: bool, cursor: bool, blink: bool, byte: u8) -> u8
 
 // A byte as it shows: with the graphic over it, or nothing in the dark.
 pub fn lit(dark: bool, graphic: bool, dots: u8, byte: u8) -> u8
-    ensures { result ≡ (if dark then 0x00 else overlaid graphic dots byte) }
+    ensures { result ≡ (when dark then 0x00 else overlaid graphic dots byte) }
 {
     if dark {
         return 0x00;

@@ -9,7 +9,7 @@ use native.Mathlib.Omega.{arith}
 use borrow.Author.Tests.{leb-true, ltb-true, eq-eqb, ne_eqb}
 use lib.Dec.{leb, ltb}
 use lib.ListN.{length, drop, length-drop, length-append}
-use lib.Seq.{sets, length-sets, length-take-le}
+use lib.Seq.{sets, length-take-le}
 use Rattle.base.proofs.Lists.{sets_append}
 use Rattle.base.proofs.Tests.{and_both}
 use Rattle.picture.specs.Picture.{Seen}
@@ -180,9 +180,6 @@ module _ (e : Seen) (telling : Bool) (c : List ℕ) (s₀ : State) (f₀ : List 
 
     pub further : {kind value at' : ℕ} → taken_at s c at ≡ Record kind value → at' ≡ at + passed (read_at c at) → at' ≡ at + 4
     further h next = next ∙ ap (λ (a : Answer). at + passed a) (stood h)
-
-    pub sized : length text ≡ length text₀
-    sized = ap length g.stands ∙ length-sets text₀ 0 (told_by telling (lines n₀ g.before))
 
     pub tells_so_far : Counts filled text
     tells_so_far = (g.inside, sym (length-take-le filled text g.inside))

@@ -7,7 +7,7 @@ use native.Mathlib.Omega.{arith}
 use lib.Dec.{eqb}
 use lib.ListN.{length, set, take, drop, length-drop, length-append}
 use lib.Seq.{sets, length-sets}
-use Rattle.base.specs.Choice.{if◌then◌else◌}
+use Rattle.base.specs.Choice.{when◌then◌else◌}
 use Rattle.base.proofs.Choice.{either, either-told}
 use Rattle.base.proofs.Lists.{sets_append}
 use Rattle.picture.specs.Picture.{Seen}
@@ -44,7 +44,7 @@ module _ (e : Seen) where
   -- a replay that came to its end goes on with more records
   abbrev gone_over : Room → ℕ → Contents → Replayed → Replayed
   gone_over room n c r =
-      if ended r.ending then
+      when ended r.ending then
       after_answers r.answers
       (contents_replayed e (room_behind room (lines n r.answers)) c r.ending.state r.ending.frame r.ending.place)
       else r
@@ -61,8 +61,8 @@ module _ (e : Seen) where
 
       by :
           (t : Bool)
-          → after_answers (a ∷ []) (if t then after_answers r.answers (more (room_behind (room_behind room (line n a)) (lines (n + 1) r.answers))) else r)
-          ≡ (if t then after_answers (a ∷ r.answers) (more (room_behind room (line n a ++ lines (n + 1) r.answers))) else after_answers (a ∷ []) r)
+          → after_answers (a ∷ []) (when t then after_answers r.answers (more (room_behind (room_behind room (line n a)) (lines (n + 1) r.answers))) else r)
+          ≡ (when t then after_answers (a ∷ r.answers) (more (room_behind room (line n a ++ lines (n + 1) r.answers))) else after_answers (a ∷ []) r)
       by true = ap (λ (left : Room). after_answers (a ∷ r.answers) (more left)) (sym (behind-both room (line n a) (lines (n + 1) r.answers)))
       by false = refl
 
@@ -88,11 +88,11 @@ module _ (e : Seen) where
           → eqb k.number 0 ≡ t
           → records_replayed e (number c.stop) left (xs ++ c.records) k.state k.frame (n + 1)
           ≡ gone_over left (n + 1) c (records_replayed e 0 left xs k.state k.frame (n + 1))
-          → (if not q then halted s f n 0 true
-          else (if t then after_answers (a ∷ []) (records_replayed e (number c.stop) left (xs ++ c.records) k.state k.frame (n + 1)) else halted s f n k.number false))
+          → (when not q then halted s f n 0 true
+          else (when t then after_answers (a ∷ []) (records_replayed e (number c.stop) left (xs ++ c.records) k.state k.frame (n + 1)) else halted s f n k.number false))
           ≡ gone_over room n c
-          (if not q then halted s f n 0 true
-          else (if t then after_answers (a ∷ []) (records_replayed e 0 left xs k.state k.frame (n + 1)) else halted s f n k.number false))
+          (when not q then halted s f n 0 true
+          else (when t then after_answers (a ∷ []) (records_replayed e 0 left xs k.state k.frame (n + 1)) else halted s f n k.number false))
       by false t z rest = refl
       by true true z rest = ap (after_answers (a ∷ [])) rest ∙ answer-first room n a c (records_replayed e 0 left xs k.state k.frame (n + 1))
       by true false z rest = rw z
@@ -165,8 +165,8 @@ parts-replay_as_whole e room part more s f n h = by (eqb (refusal_of (length f) 
     by :
         (t : Bool)
         → eqb m 0 ≡ t
-        → (if t then contents_replayed e room (read_by s (part ++ more)) s f n else halted s f n m false)
-        ≡ gone_on e room n more (if t then contents_replayed e room x s f n else halted s f n m false)
+        → (when t then contents_replayed e room (read_by s (part ++ more)) s f n else halted s f n m false)
+        ≡ gone_on e room n more (when t then contents_replayed e room x s f n else halted s f n m false)
     by true q =
         ap (λ (c : Contents). contents_replayed e room c s f n) (contents-of-parts s.control.time.timed part more h)
         ∙ replayed-by-stop e room x.records x.stop (read_by s more) s f n (contents-stop s.control.time.timed part)

@@ -7,7 +7,7 @@ use native.Mathlib.Omega.{arith}
 use borrow.Author.Tests.{le-leb, lt-ltb}
 use lib.Dec.{eqb}
 use lib.ListN.{length}
-use Rattle.base.specs.Choice.{if◌then◌else◌}
+use Rattle.base.specs.Choice.{when◌then◌else◌}
 use Rattle.picture.specs.Picture.{Seen}
 use Rattle.picture.specs.Refusals.{refusal_of}
 use Rattle.calls.specs.State.{State}
@@ -36,7 +36,7 @@ module _ (e : Seen) (last : ℕ) where
   roomy rest [] s f n h l = refl
   roomy rest (r ∷ rs) s f n h l =
       rw (has_room_lem rest n (omega arith) (omega arith))
-      (ap (λ (x : Replayed). if eqb k.number 0 then after_answers (a ∷ []) x else halted s f n k.number false) (roomy (rest - length (line n a)) rs k.state k.frame (n + 1) (omega (arith, short)) (omega arith)))
+      (ap (λ (x : Replayed). when eqb k.number 0 then after_answers (a ∷ []) x else halted s f n k.number false) (roomy (rest - length (line n a)) rs k.state k.frame (n + 1) (omega (arith, short)) (omega arith)))
     where
       k : Called
       k = record_called e r.kind r.value s f
@@ -50,5 +50,5 @@ module _ (e : Seen) (last : ℕ) where
 pub room_tells_all : RoomTellsAll
 unfolding replayed
 room_tells_all e room capture s f n h l =
-    ap (λ (r : Replayed). if eqb (refusal_of (length f) (length e.fonts.half) (length e.fonts.full)) 0 then r else halted s f n (refusal_of (length f) (length e.fonts.half) (length e.fonts.full)) false)
+    ap (λ (r : Replayed). when eqb (refusal_of (length f) (length e.fonts.half) (length e.fonts.full)) 0 then r else halted s f n (refusal_of (length f) (length e.fonts.half) (length e.fonts.full)) false)
     (roomy e (number (read_by s capture).stop) room (read_by s capture).records s f n h l)

@@ -1,6 +1,6 @@
 -- Document 01, "Captures", and request K1: replay goes on until the first refusal, and answers with the place where it stopped.
 use Rattle.std.specs.Prelude.{ℕ, ◌+◌, ◌-◌, Bool, true, false, not, ◌&&◌, List, [], ◌∷◌, ◌++◌, length, eqb}
-use Rattle.base.specs.Choice.{if◌then◌else◌}
+use Rattle.base.specs.Choice.{when◌then◌else◌}
 use Rattle.picture.specs.Picture.{Seen}
 use Rattle.picture.specs.Refusals.{lent_refusal}
 use Rattle.calls.specs.State.{State}
@@ -43,7 +43,7 @@ pub data Room : Type 0 where
   bytes : ℕ → Room
 
 abbrev pub room_of : Bool → ℕ → Room
-room_of telling rest = if telling then bytes rest else endless
+room_of telling rest = when telling then bytes rest else endless
 
 -- What a record answers is known only when it has been carried out, so the longest line that it could have is asked to fit before that.
 abbrev pub room_for : Room → ℕ → Bool
@@ -62,8 +62,8 @@ records_replayed e last room (r ∷ rs) s frame place =
     let k : Called = record_called e r.kind r.value s frame in
     let a : RecordAnswer = record_answer r.kind k.reply k.count in
     let on : Replayed = records_replayed e last (room_behind room (line place a)) rs k.state k.frame (place + 1) in
-    if not (room_for room place) then halted s frame place 0 true
-    else if eqb k.number 0 then after_answers (a ∷ []) on
+    when not (room_for room place) then halted s frame place 0 true
+    else when eqb k.number 0 then after_answers (a ∷ []) on
     else halted s frame place k.number false
 
 -- what a panel reads of a capture: a record is what a panel with its time, or without, takes it for
@@ -73,5 +73,5 @@ read_by s capture = contents s.control.time.timed capture
 -- a replay from a number of accepted records on: refusals 1, 2, 3 before anything is read
 unfoldable pub replayed : Seen → Room → List ℕ → State → List ℕ → ℕ → Replayed
 replayed e room capture s frame place =
-    if eqb (lent_refusal e frame) 0 then records_replayed e (number (read_by s capture).stop) room (read_by s capture).records s frame place
+    when eqb (lent_refusal e frame) 0 then records_replayed e (number (read_by s capture).stop) room (read_by s capture).records s frame place
     else halted s frame place (lent_refusal e frame) false

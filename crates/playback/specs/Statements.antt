@@ -1,7 +1,7 @@
 -- Document 01, "Captures": what holds of replays and their lines.
 -- Each statement is proved in proofs/, under its own name in small letters (`RoomTellsAll` as `room-tells-all`).
 use Rattle.std.specs.Prelude.{ℕ, ◌+◌, ◌*◌, ◌%◌, ◌^◌, ◌≤◌, ◌<◌, true, false, List, ◌++◌, ◌≡◌, length, take, drop}
-use Rattle.base.specs.Choice.{if◌then◌else◌}
+use Rattle.base.specs.Choice.{when◌then◌else◌}
 use Rattle.picture.specs.Picture.{Seen}
 use Rattle.calls.specs.State.{State}
 use Rattle.printed.specs.Text.{lines}
@@ -12,7 +12,7 @@ use Rattle.playback.specs.Transcript.{Told, transcribed}
 -- was refused, or had no room, stays
 abbrev pub gone_on : Seen → Room → ℕ → List ℕ → Replayed → Replayed
 gone_on e room place more r =
-    if ended r.ending then
+    when ended r.ending then
     after_answers r.answers
     (replayed e (room_behind room (lines place r.answers)) more r.ending.state r.ending.frame r.ending.place)
     else r

@@ -2,7 +2,7 @@
 -- whole records as fit.
 use Rattle.std.specs.Prelude.{ℕ, Bool, true, false, List, [], ◌∷◌, length}
 use Rattle.std.proofs.lemmas.List.Edits.{sets}
-use Rattle.base.specs.Choice.{if◌then◌else◌}
+use Rattle.base.specs.Choice.{when◌then◌else◌}
 use Rattle.picture.specs.Picture.{Seen}
 use Rattle.calls.specs.State.{State}
 use Rattle.panel.specs.Handed.{state_of}
@@ -26,7 +26,7 @@ last_or a (b ∷ more) = last_or b more
 
 -- what is written of a text: all of it, or nothing where lines are not told
 abbrev pub told_by : Bool → List ℕ → List ℕ
-told_by telling text = if telling then text else []
+told_by telling text = when telling then text else []
 
 -- what is told of a replay: its last answer's reply and count, 0 and 0 where there is none; and where lines are told, those of its answers,
 -- in their order, stand at the beginning of the buffer, and all else in it is as it was

@@ -2,17 +2,17 @@
 use Prim.Native.Nat.{ℕ, zero, suc, ◌+◌, ◌-◌, ◌/◌, ◌%◌, ◌≤◌, ◌<◌}
 use mathlib.Core.Bool.{Bool, true, false}
 use mathlib.Core.List.{List, [], ◌∷◌, ◌++◌}
-use mathlib.Core.Path.{◌≡◌, refl, sym, ap, ◌∙◌, subst}
+use mathlib.Core.Path.{◌≡◌, refl, sym, ap, ◌∙◌}
 use native.Mathlib.Nat.{zero-add}
 use native.Mathlib.Omega.{arith}
 use borrow.Author.Tests.{lt-ltb, le-ltb, eq-eqb, ne_eqb}
 use lib.Dec.{eqb, ltb}
 use lib.ListN.{length, set, length-append}
 use lib.Seq.{sets, length-sets, length-take-le}
-use Rattle.base.specs.Choice.{if◌then◌else◌}
+use Rattle.base.specs.Choice.{when◌then◌else◌}
 use Rattle.base.proofs.Choice.{either}
 use Rattle.base.proofs.Lists.{sets_append}
-use Rattle.printed.specs.Text.{RecordAnswer, digit, decimal, shown, one_byte, four_bytes, middle, line, end_line, stop_line, last_line, Put, begun_with, begun_as, Counts}
+use Rattle.printed.specs.Text.{RecordAnswer, decimal, one_byte, middle, line, end_line, stop_line, last_line, Put, begun_with, begun_as, Counts}
 
 module _ {l m : List ℕ} {i j : ℕ} {a : List ℕ} (p : Put l i a m j) where
   pub put_length : length m ≡ length l
@@ -31,15 +31,6 @@ module _ {l m : List ℕ} {i j : ℕ} {a : List ℕ} (p : Put l i a m j) where
 pub put_byte : (l : List ℕ) (i b : ℕ) → Put l i (one_byte b) (set l i b) (i + 1)
 put_byte l i b = record { stands = refl; follows = refl }
 
-pub put_four :
-    (l : List ℕ) (i a b d e : ℕ)
-    → Put l i (four_bytes a b d e) (set (set (set (set l i a) (i + 1) b) (i + 2) d) (i + 3) e) (i + 4)
-put_four l i a b d e =
-    let e₁ : i + 1 ≡ suc i = omega arith in
-    let e₂ : i + 2 ≡ suc (suc i) = omega arith in
-    let e₃ : i + 3 ≡ suc (suc (suc i)) = omega arith in
-    record { stands = simp (e₁, e₂, e₃); follows = refl }
-
 -- the digits of a number, by the code's tests
 pub decimal-small : (most n : ℕ) → (most ≡ 0 → ⊥) → n < 10 → decimal most n ≡ (0x30 + n % 10) ∷ []
 unfolding decimal
@@ -51,7 +42,7 @@ one-more-digit : (most n k : ℕ) → length (decimal most (n / 10)) ≤ k → l
 unfolding decimal
 one-more-digit most n k h = behind (ltb n 10) (decimal most (n / 10)) h
   where
-    behind : (t : Bool) (l : List ℕ) → length l ≤ k → length ((if t then [] else l) ++ ((0x30 + n % 10) ∷ [])) ≤ suc k
+    behind : (t : Bool) (l : List ℕ) → length l ≤ k → length ((when t then [] else l) ++ ((0x30 + n % 10) ∷ [])) ≤ suc k
     behind true l h = omega arith
     behind false l h = omega (arith, length-append l ((0x30 + n % 10) ∷ []))
 
@@ -77,19 +68,6 @@ decimal_large (suc most) n h l =
     let e : suc most - 1 ≡ most = omega arith in
     decimal-suc most n l ∙ ap (λ (k : ℕ). decimal k (n / 10) ++ ((0x30 + n % 10) ∷ [])) (sym e)
 
-pub no_digits : (most n : ℕ) → most ≡ 0 → 0 ≡ length (decimal most n)
-unfolding decimal
-no_digits zero n e = refl
-no_digits (suc most) n e = absurd (omega arith)
-
-pub put_none : (l : List ℕ) (i most n : ℕ) → most ≡ 0 → Put l i (decimal most n) l i
-unfolding decimal
-put_none l i zero n e = record { stands = refl; follows = omega arith }
-put_none l i (suc most) n e = absurd (omega arith)
-
-pub put_small : (l : List ℕ) (i most n : ℕ) → (most ≡ 0 → ⊥) → n < 10 → Put l i (decimal most n) (set l i (0x30 + n % 10)) (i + 1)
-put_small l i most n h k = rw (decimal-small most n h k) (put_byte l i (0x30 + n % 10))
-
 pub put_large :
     {l m : List ℕ} {i j : ℕ} (most n : ℕ)
     → (most ≡ 0 → ⊥)
@@ -98,28 +76,12 @@ pub put_large :
     → Put l i (decimal most n) (set m j (0x30 + n % 10)) (j + 1)
 put_large {l} {m} {i} {j} most n h k p = rw (decimal_large most n h k) (put_then p (put_byte m j (0x30 + n % 10)))
 
-pub large_room : (most n : ℕ) → (most ≡ 0 → ⊥) → 10 ≤ n → length (decimal most n) ≡ length (decimal (most - 1) (n / 10)) + 1
-large_room most n h k = ap length (decimal_large most n h k) ∙ length-append (decimal (most - 1) (n / 10)) ((0x30 + n % 10) ∷ [])
-
 pub line-length : (place : ℕ) (a : RecordAnswer) → length (line place a) ≡ length (decimal 20 place) + 4 + length (decimal 20 a.count) + 1
 unfolding line
 line-length place a =
     length-append (decimal 20 place ++ middle a.kind a.reply ++ decimal 20 a.count) (0x0A ∷ [])
     ∙ ap (λ (n : ℕ). n + 1) (length-append (decimal 20 place ++ middle a.kind a.reply) (decimal 20 a.count))
     ∙ ap (λ (n : ℕ). n + length (decimal 20 a.count) + 1) (length-append (decimal 20 place) (middle a.kind a.reply))
-
--- the middle of a line, from its two digits
-pub put_middle :
-    {l m : List ℕ} {i j : ℕ} (kind reply : ℕ) {a high b low : ℕ}
-    → a ≡ digit (reply / 16)
-    → high ≡ shown kind a
-    → b ≡ digit (reply % 16)
-    → low ≡ shown kind b
-    → Put l i (four_bytes 0x20 high low 0x20) m j
-    → Put l i (middle kind reply) m j
-put_middle {l} {m} {i} {j} kind reply {a} {high} {b} {low} p q r s =
-    subst (λ (t : List ℕ). Put l i t m j)
-    (ap (λ (x : ℕ). four_bytes 0x20 x low 0x20) (q ∙ ap (shown kind) p) ∙ ap (λ (x : ℕ). four_bytes 0x20 (shown kind (digit (reply / 16))) x 0x20) (s ∙ ap (shown kind) r))
 
 pub last-length : (place number : ℕ) → length (last_line place number) ≤ 48
 unfolding end_line stop_line

@@ -1,7 +1,7 @@
 -- Document 01, "Captures": what `replay` prints, as a function of the answers. Characters are ASCII bytes.
 use Rattle.std.specs.Prelude.{ℕ, zero, suc, ◌+◌, ◌-◌, ◌/◌, ◌%◌, ◌^◌, ◌≤◌, Bool, ◌&&◌, ◌≡◌, List, [], ◌∷◌, ◌++◌, eqb, leb, ltb, length, take}
 use Rattle.std.proofs.lemmas.List.Edits.{sets}
-use Rattle.base.specs.Choice.{if◌then◌else◌}
+use Rattle.base.specs.Choice.{when◌then◌else◌}
 use Rattle.capture.specs.Kinds.{kind_of, reads}
 
 -- what an accepted record answers
@@ -15,16 +15,16 @@ record_answer kind reply count = record { kind = kind; reply = reply; count = co
 
 -- a hex digit, in capitals
 abbrev pub digit : ℕ → ℕ
-digit d = if ltb d 10 then 0x30 + d else 0x37 + d
+digit d = when ltb d 10 then 0x30 + d else 0x37 + d
 
 -- decimal, at most so many digits, without leading zeros
 unfoldable pub decimal : ℕ → ℕ → List ℕ
 decimal zero n = []
-decimal (suc most) n = (if ltb n 10 then [] else decimal most (n / 10)) ++ ((0x30 + n % 10) ∷ [])
+decimal (suc most) n = (when ltb n 10 then [] else decimal most (n / 10)) ++ ((0x30 + n % 10) ∷ [])
 
 -- a digit of a read's reply; a dash for other kinds
 abbrev pub shown : ℕ → ℕ → ℕ
-shown kind character = if reads (kind_of kind) then character else 0x2D
+shown kind character = when reads (kind_of kind) then character else 0x2D
 
 abbrev pub one_byte : ℕ → List ℕ
 one_byte a = a ∷ []
@@ -62,7 +62,7 @@ stop_line place number =
 
 -- `end N`, or `stop N code`
 abbrev pub last_line : ℕ → ℕ → List ℕ
-last_line place number = if eqb number 0 then end_line place else stop_line place number
+last_line place number = when eqb number 0 then end_line place else stop_line place number
 
 -- writing a text at a place of a buffer leaves the text there and all else as it was, and answers the place behind it
 pub record Put (buffer : List ℕ) (at : ℕ) (text left : List ℕ) (next : ℕ) : Type 0 where

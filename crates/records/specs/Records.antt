@@ -1,7 +1,7 @@
 -- Document 01, "Captures", and requests K1 and K3: what a record asks of a panel, and what that leaves.
 use Rattle.std.specs.Prelude.{ℕ, ◌+◌, List, [], ◌∷◌, map, eqb}
 use Rattle.base.specs.Bits.{bit}
-use Rattle.base.specs.Choice.{if◌then◌else◌}
+use Rattle.base.specs.Choice.{when◌then◌else◌}
 use Rattle.events.specs.declared.Pin.{Pin}
 use Rattle.events.specs.declared.Event.{Event}
 use Rattle.events.specs.declared.Event.TheVariants.{Transfer, Bit, SelectLow, Reset, Pass}
@@ -43,7 +43,7 @@ first_number e s frame (event ∷ events) = (called e s frame event).number
 -- refused as the first of them is, and then none is heard; else called in turn
 unfoldable pub called_in_turn : Seen → State → List ℕ → List Event → Called
 called_in_turn e s frame events =
-    if eqb (first_number e s frame events) 0 then called_on e 0 s frame events
+    when eqb (first_number e s frame events) 0 then called_on e 0 s frame events
     else refused s frame (first_number e s frame events)
 
 -- a record: its events in turn

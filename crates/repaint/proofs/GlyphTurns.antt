@@ -1,36 +1,25 @@
 -- The bytes that show a glyph half, as the loops pass them: in a row that shows the glyph row, one byte of each cell that shows the image.
 use Prim.Native.Nat.{ℕ, ◌+◌, ◌*◌, ◌-◌, ◌/◌, ◌%◌, ◌<◌, ◌≤◌}
-use mathlib.Core.Path.{◌≡◌, sym, ap, ◌∙◌}
+use mathlib.Core.Path.{◌≡◌, sym, ◌∙◌}
 use mathlib.Core.Logic.{⊎_elim}
 use mathlib.Core.Bool.{Bool, true, false, ◌&&◌, ◌||◌, true≢false}
 use mathlib.Core.List.{List}
-use native.Mathlib.Nat.{add-zero}
 use native.Mathlib.Omega.{arith}
-use lib.ListN.{length, get_or, set}
+use lib.ListN.{length, set}
 use lib.Dec.{eqb}
 use borrow.Author.Tests.{eqb-true, eq-eqb}
 use Rattle.base.specs.Layout.{on, rows, columns}
 use Rattle.base.proofs.Tests.{alike, never, and_both, or_either, or_else}
 use Rattle.base.proofs.Layouts.{only, in_rows_lem, of-rows, in_columns_lem, of-columns}
 use Rattle.controller.specs.declared.View.{View}
-use Rattle.controller.specs.declared.Image.{Image}
 use Rattle.controller.specs.Memories.{half}
-use Rattle.controller.specs.Glass.{place_of, shown_row, shown_word, image_of, word_image, is_image}
+use Rattle.controller.specs.Glass.{place_of, shown_row, shown_word, word_image, is_image}
 use Rattle.controller.specs.Named.{shows_glyph}
 use Rattle.controller.proofs.Halves.{half_le}
 use Rattle.picture.specs.Picture.{wide}
 use Rattle.picture.proofs.Wide.{wide-placed}
 use Rattle.repaint.specs.Repaint.{painting, paints_on}
 use Rattle.repaint.proofs.Paintings.{paints-none, paints-same, paints-both, paints-byte, columns_begin, columns_step}
-
--- the image that two bytes of the text give is the word's
-pub word-shows :
-    (text : List ℕ) (word number : ℕ) {x y : Image}
-    → x ≡ image_of (get_or text (2 * word) 0) (get_or text (2 * word + 1) 0)
-    → x ≡ y
-    → is_image y number ≡ is_image (word_image text word) number
-unfolding word_image
-word-shows text word number e t = rw (add-zero (2 * word)) (ap (λ (i : Image). is_image i number) (sym t ∙ e))
 
 -- the two rows of the glass that show a glyph row
 sixteenths : (x : ℕ) → x % 16 ≡ x % 64 % 16

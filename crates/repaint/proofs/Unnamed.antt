@@ -6,7 +6,7 @@ use mathlib.Core.Path.{◌≡◌, refl, ◌∙◌, sym, ap, subst}
 use mathlib.Core.List.{List}
 use lib.Dec.{eqb}
 use borrow.Author.Tests.{eqb-false}
-use Rattle.base.specs.Choice.{if◌then◌else◌}
+use Rattle.base.specs.Choice.{when◌then◌else◌}
 use Rattle.base.proofs.Choice.{by_test, either-told}
 use Rattle.base.proofs.Tests.{or_neither}
 use Rattle.table.specs.declared.Target.{Target}
@@ -43,7 +43,7 @@ module _ (v : View) (text : List ℕ) (row column : ℕ) where
 
   not-whole :
       (s : Bool) (r : Region)
-      → covers v text (if s then Whole else r) row column ≡ false
+      → covers v text (when s then Whole else r) row column ≡ false
       → (s ≡ false) × (covers v text r row column ≡ false)
   not-whole true r e = absurd (never-whole e)
   not-whole false r e = (refl, e)
@@ -62,18 +62,18 @@ module _ (v : View) (text : List ℕ) (row column : ℕ) where
 same_word :
     (v : View) (row column : ℕ) (low : Bool) (k next : ℕ)
     → eqb (shown_word v row (column / 2)) k ≡ false
-    → in_some_cell v (if low then Word (if low then next else k) else Nowhere) row column ≡ false
-    → eqb (shown_word v row (column / 2)) (if low then next else k) ≡ eqb (shown_word v row (column / 2)) k
+    → in_some_cell v (when low then Word (when low then next else k) else Nowhere) row column ≡ false
+    → eqb (shown_word v row (column / 2)) (when low then next else k) ≡ eqb (shown_word v row (column / 2)) k
 same_word v row column true k next e u = sym (in_cell-shows v next row column) ∙ u ∙ sym e
 same_word v row column false k next e u = refl
 
 -- where the target is not text the counter's word is nowhere
-neither : (t : Bool) (w x y : ℕ) → t ≡ false → at_counter (if t then Word x else Nowhere) w ≡ at_counter (if t then Word y else Nowhere) w
+neither : (t : Bool) (w x y : ℕ) → t ≡ false → at_counter (when t then Word x else Nowhere) w ≡ at_counter (when t then Word y else Nowhere) w
 neither true w x y e = absurd (true≢false e)
 neither false w x y e = refl
 
 -- where the same words are shown the counter's is
-at-text : (t : Bool) (w x y : ℕ) → eqb w x ≡ eqb w y → at_counter (if t then Word x else Nowhere) w ≡ at_counter (if t then Word y else Nowhere) w
+at-text : (t : Bool) (w x y : ℕ) → eqb w x ≡ eqb w y → at_counter (when t then Word x else Nowhere) w ≡ at_counter (when t then Word y else Nowhere) w
 at-text true w x y e = e
 at-text false w x y e = refl
 
@@ -81,7 +81,7 @@ at-text false w x y e = refl
 incomplete :
     (t low : Bool) (w next k : ℕ)
     → (t && low) ≡ false
-    → at_counter (if t then Word (if low then next else k) else Nowhere) w ≡ at_counter (if t then Word k else Nowhere) w
+    → at_counter (when t then Word (when low then next else k) else Nowhere) w ≡ at_counter (when t then Word k else Nowhere) w
 incomplete true true w next k e = absurd (true≢false e)
 incomplete true false w next k e = refl
 incomplete false low w next k e = refl
@@ -92,7 +92,7 @@ module _ (e : Fonts) (phase : Bool) (m : Memories) (c : Control) (row column : �
   -- an address set or a cursor move to p
   relocated :
       (p : Place)
-      → covers c.view m.text (if c.standby && true then Whole else both_cells c.place p) row column ≡ false
+      → covers c.view m.text (when c.standby && true then Whole else both_cells c.place p) row column ≡ false
       → byte_at e m (look_of phase (with_place p (begun c))) row column ≡ byte_at e m (look_of phase c) row column
   relocated p u =
       let n = not-whole c.view m.text row column (c.standby && true) (both_cells c.place p) u in
@@ -111,7 +111,7 @@ module _ (e : Fonts) (phase : Bool) (m : Memories) (c : Control) (row column : �
   -- a graphic address: a row alone moves nothing, its column is an address set
   graphic-relocated :
       (w : Waiting) (a : ℕ)
-      → covers c.view m.text (if c.standby && true then Whole else address_names (graphic_addressed w c.place a).waiting c.place (graphic_addressed w c.place a)) row column ≡ false
+      → covers c.view m.text (when c.standby && true then Whole else address_names (graphic_addressed w c.place a).waiting c.place (graphic_addressed w c.place a)) row column ≡ false
       → byte_at e m (look_of phase (with_place (graphic_addressed w c.place a) (begun c))) row column ≡ byte_at e m (look_of phase c) row column
   graphic-relocated waiting.Nothing a u =
       let n = not-whole c.view m.text row column (c.standby && true) Nothing u in
@@ -128,7 +128,7 @@ module _ (e : Fonts) (phase : Bool) (m : Memories) (c : Control) (row column : �
       })
   graphic-relocated (waiting.Row y) a u = relocated (graphic_addressed (waiting.Row y) c.place a) u
 
-  all_named : {P : Type 0} (v : View) (text : List ℕ) (s : Bool) → covers v text (if s then Whole else Whole) row column ≡ false → P
+  all_named : {P : Type 0} (v : View) (text : List ℕ) (s : Bool) → covers v text (when s then Whole else Whole) row column ≡ false → P
   all_named v text s u = absurd (never-whole v text row column (not-whole v text row column s Whole u).1)
 
   pub obeyed_unnamed :
@@ -183,7 +183,7 @@ module _ (e : Fonts) (phase : Bool) (m : Memories) (c : Control) (row column : �
       → byte_at e (stored t c.place b m) (look_of phase (moved_on c)) row column ≡ byte_at e m (look_of phase c) row column
   unfolding stored covers moved moved_on cell_byte graphic_byte
   stored_unnamed b Text r l q s u =
-      let n = or_neither (in_cell c.view c.place.counter row column) (in_some_cell c.view (if c.place.low then Word (counter_after c.entry.id c.place) else Nowhere) row column) u in
+      let n = or_neither (in_cell c.view c.place.counter row column) (in_some_cell c.view (when c.place.low then Word (counter_after c.entry.id c.place) else Nowhere) row column) u in
       let k : eqb (shown_word c.view row (column / 2)) c.place.counter ≡ false = sym (in_cell-shows c.view c.place.counter row column) ∙ n.0 in
       moved-on-same (stored Text c.place b m) s
       (at-text (is_text c.place.target) _ _ _ (same_word c.view row column c.place.low c.place.counter _ k n.1))
@@ -214,7 +214,7 @@ module _ (e : Fonts) (phase : Bool) (m : Memories) (c : Control) (row column : �
   -- a data read that is no dummy and shifts nothing
   moved_unnamed :
       shifts c ≡ false
-      → covers c.view m.text (if completes c.place then both_cells c.place (moved_on c).place else Nothing) row column ≡ false
+      → covers c.view m.text (when completes c.place then both_cells c.place (moved_on c).place else Nothing) row column ≡ false
       → byte_at e m (look_of phase (moved_on c)) row column ≡ byte_at e m (look_of phase c) row column
   unfolding moved moved_on
   moved_unnamed s u =

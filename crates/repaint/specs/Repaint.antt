@@ -2,7 +2,7 @@
 -- also where the frame held something else before; the answer counts distinct bytes rewritten, whether or not their content differs.
 use Prim.{Unit}
 use Rattle.std.specs.Prelude.{ℕ, ◌+◌, ◌*◌, ◌-◌, ◌/◌, ◌%◌, ◌<◌, Bool, false, ◌&&◌, List, eqb, ltb}
-use Rattle.base.specs.Choice.{if◌then◌else◌}
+use Rattle.base.specs.Choice.{when◌then◌else◌}
 use Rattle.base.specs.Painting.{painted, count}
 use Rattle.base.specs.Layout.{Layout, on}
 use Rattle.controller.specs.declared.View.{View}
@@ -86,13 +86,13 @@ run_top scroll line = (16 * line + 64 - scroll) % 64
 
 -- the first of them
 unfoldable pub run_first : ℕ → ℕ → ℕ
-run_first scroll line = if ltb (run_top scroll line) 32 then run_top scroll line else 0
+run_first scroll line = when ltb (run_top scroll line) 32 then run_top scroll line else 0
 
 -- and the row after the last; 0 where none shows the line
 unfoldable pub run_end : ℕ → ℕ → ℕ
 run_end scroll line =
-    if ltb (run_top scroll line) 16 then run_top scroll line + 16
-    else if ltb (run_top scroll line) 32 then 32
+    when ltb (run_top scroll line) 16 then run_top scroll line + 16
+    else when ltb (run_top scroll line) 32 then 32
     else run_top scroll line - 48
 
 -- the two columns of a cell

@@ -1,6 +1,6 @@
 -- Document 01, "Links": the sender, and refusal 4.
 use Rattle.std.specs.Prelude.{ℕ, Bool, true, false, List, [], ◌∷◌, ◌++◌, ltb, length, drop}
-use Rattle.base.specs.Choice.{if◌then◌else◌}
+use Rattle.base.specs.Choice.{when◌then◌else◌}
 use Rattle.base.specs.Bits.{bit, bits7_4, bits3_0, raised}
 
 -- F8h (instruction) or FAh (data)
@@ -27,5 +27,5 @@ leaving number buffer = record { number = number; buffer = buffer }
 -- a buffer under 3 bytes is refused with 4, and stays; else the first three bytes are written, and no others
 unfoldable pub sent : Bool → ℕ → List ℕ → Sent
 sent register byte buffer =
-    if ltb (length buffer) 3 then leaving 4 buffer
+    when ltb (length buffer) 3 then leaving 4 buffer
     else leaving 0 (three_bytes register byte ++ drop 3 buffer)

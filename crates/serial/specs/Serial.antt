@@ -1,6 +1,6 @@
 -- Document 01, "Links": serial, bit by bit.
 use Rattle.std.specs.Prelude.{ℕ, ◌+◌, ◌*◌, ◌%◌, Bool, true, false, ltb}
-use Rattle.base.specs.Choice.{if◌then◌else◌}
+use Rattle.base.specs.Choice.{when◌then◌else◌}
 use Rattle.serial.specs.declared.Header.{Header}
 use Rattle.serial.specs.declared.Header.TheVariants.{Begun, WithRead, WithRegister}
 use Rattle.serial.specs.declared.Sync.{Sync}
@@ -14,11 +14,11 @@ use Rattle.serial.specs.declared.Heard.{Heard}
 -- five ones in a row always begin a header, outside a header; what was half received is dropped
 unfoldable pub counted : ℕ → Bool → Sync → Receiver
 counted run false sync = Outside 0 sync
-counted run true sync = if ltb run 4 then Outside (run + 1) sync else Inside Begun
+counted run true sync = when ltb run 4 then Outside (run + 1) sync else Inside Begun
 
 -- when all three header bits have come, read = 1 or third bit = 1 loses sync
 unfoldable pub after_header : Bool → Bool → Bool → Sync
-after_header read register third = if read then Lost else if third then Lost else Body register 0 0
+after_header read register third = when read then Lost else when third then Lost else Body register 0 0
 
 -- three header bits follow: read, register, 0; then the run of ones is at 0
 unfoldable pub header_bit : Header → Bool → Receiver
@@ -32,7 +32,7 @@ data_next seen = ltb (seen % 8) 4
 
 -- a data bit comes in at the low end
 abbrev pub pushed : ℕ → Bool → ℕ
-pushed byte bit = byte % 128 * 2 + (if bit then 1 else 0)
+pushed byte bit = byte % 128 * 2 + (when bit then 1 else 0)
 
 -- two groups make a byte: whether the next bit is before its last
 abbrev pub before_last : ℕ → Bool
@@ -42,9 +42,9 @@ before_last seen = ltb seen 15
 unfoldable pub body_bit : Sync → Bool → Sync
 body_bit Lost bit = Lost
 body_bit (Body register seen byte) bit =
-    if data_next seen then Body register (seen + 1) (pushed byte bit)
-    else if bit then Lost
-    else if before_last seen then Body register (seen + 1) byte
+    when data_next seen then Body register (seen + 1) (pushed byte bit)
+    else when bit then Lost
+    else when before_last seen then Body register (seen + 1) byte
     else Body register 0 0
 
 -- what a bit completes: a byte, acting on the last zero
@@ -52,8 +52,8 @@ unfoldable pub completed : Sync → Bool → Received
 completed sync true = Nothing
 completed Lost false = Nothing
 completed (Body register seen byte) false =
-    if data_next seen then Nothing
-    else if before_last seen then Nothing
+    when data_next seen then Nothing
+    else when before_last seen then Nothing
     else Byte register byte
 
 -- one bit, with chip select high; a fifth one begins a header, also where it would lose sync

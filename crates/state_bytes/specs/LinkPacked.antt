@@ -2,7 +2,7 @@
 -- wires; where the receiver is; the run of ones; the header bits seen, the read bit, the register bit; the body bits seen, and the data
 -- among them as a number. What does not apply is 0.
 use Rattle.std.specs.Prelude.{ℕ, ◌/◌, Bool, true, false, List, [], ◌∷◌, get_or, eqb}
-use Rattle.base.specs.Choice.{if◌then◌else◌}
+use Rattle.base.specs.Choice.{when◌then◌else◌}
 use Rattle.base.specs.Bits.{raised}
 use Rattle.links.specs.declared.Pairing.{Pairing}
 use Rattle.links.specs.declared.Pairing.TheVariants.{Empty, Upper, Lower}
@@ -23,8 +23,8 @@ open_bytes kind bits = 0 ∷ kind ∷ bits ∷ 0 ∷ 0 ∷ 0 ∷ 0 ∷ 0 ∷ 0 �
 -- kinds: 1 instruction write, 2 data write, 3 status read, 4 data read
 abbrev pub pairing_packed : Pairing → List ℕ
 pairing_packed Empty = open_bytes 0 0
-pairing_packed (Upper register upper) = open_bytes (if register then 2 else 1) (raised upper)
-pairing_packed (Lower register lower) = open_bytes (if register then 4 else 3) (raised lower)
+pairing_packed (Upper register upper) = open_bytes (when register then 2 else 1) (raised upper)
+pairing_packed (Lower register lower) = open_bytes (when register then 4 else 3) (raised lower)
 
 -- 1: in a header; a bit that has not come is 0
 abbrev pub inside_bytes : ℕ → Bool → Bool → List ℕ
@@ -52,20 +52,20 @@ link_packed (Serial receiver) = receiver_packed receiver
 -- cases has counts as the last
 abbrev pub pairing_from : ℕ → ℕ → Pairing
 pairing_from kind bits =
-    if eqb kind 0 then Empty
-    else if eqb kind 1 then Upper false (bits / 16)
-    else if eqb kind 2 then Upper true (bits / 16)
-    else if eqb kind 3 then Lower false (bits / 16)
+    when eqb kind 0 then Empty
+    else when eqb kind 1 then Upper false (bits / 16)
+    else when eqb kind 2 then Upper true (bits / 16)
+    else when eqb kind 3 then Lower false (bits / 16)
     else Lower true (bits / 16)
 
 abbrev pub header_from : ℕ → Bool → Bool → Header
-header_from seen read register = if eqb seen 0 then Begun else if eqb seen 1 then WithRead read else WithRegister read register
+header_from seen read register = when eqb seen 0 then Begun else when eqb seen 1 then WithRead read else WithRegister read register
 
 unfoldable pub receiver_from : List ℕ → Receiver
 receiver_from b =
-    if eqb (get_or b 3 0) 0 then Outside (get_or b 4 0) Lost
-    else if eqb (get_or b 3 0) 1 then Inside (header_from (get_or b 5 0) (flag (get_or b 6 0)) (flag (get_or b 7 0)))
+    when eqb (get_or b 3 0) 0 then Outside (get_or b 4 0) Lost
+    else when eqb (get_or b 3 0) 1 then Inside (header_from (get_or b 5 0) (flag (get_or b 6 0)) (flag (get_or b 7 0)))
     else Outside (get_or b 4 0) (Body (flag (get_or b 7 0)) (get_or b 8 0) (get_or b 9 0))
 
 unfoldable pub unpacked_link : List ℕ → Link
-unpacked_link b = if flag (get_or b 0 0) then Serial (receiver_from b) else Parallel (pairing_from (get_or b 1 0) (get_or b 2 0))
+unpacked_link b = when flag (get_or b 0 0) then Serial (receiver_from b) else Parallel (pairing_from (get_or b 1 0) (get_or b 2 0))

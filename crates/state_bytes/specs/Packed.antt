@@ -2,7 +2,7 @@
 -- DL, RE, G, SR, standby, scroll, shift, the four reversed lines, whether there is time, the time that remains in two bytes, the high one
 -- first, and the numbering. A flag is bit 0 of its byte, a number the bits it has room for.
 use Rattle.std.specs.Prelude.{ℕ, ◌+◌, ◌*◌, ◌/◌, ◌%◌, min, Bool, false, List, [], ◌∷◌, get_or, eqb}
-use Rattle.base.specs.Choice.{if◌then◌else◌}
+use Rattle.base.specs.Choice.{when◌then◌else◌}
 use Rattle.events.specs.declared.Numbering.{Numbering}
 use Rattle.events.specs.declared.Numbering.TheVariants.{By96, By160}
 use Rattle.table.specs.declared.Target.{Target}
@@ -20,7 +20,7 @@ flag byte = eqb (byte % 2) 1
 
 -- 0 text, 1 glyph, 2 graphic
 abbrev pub target_from : ℕ → Target
-target_from byte = if eqb (byte % 4) 0 then Text else if eqb (byte % 4) 1 then Glyph else Graphic
+target_from byte = when eqb (byte % 4) 0 then Text else when eqb (byte % 4) 1 then Glyph else Graphic
 
 abbrev pub counter_from : Target → ℕ → ℕ
 counter_from Text byte = byte % 64
@@ -28,7 +28,7 @@ counter_from Glyph byte = byte % 64
 counter_from Graphic byte = byte % 16
 
 abbrev pub waiting_from : Bool → ℕ → Waiting
-waiting_from waits row = if waits then Row (row % 64) else Nothing
+waiting_from waits row = when waits then Row (row % 64) else Nothing
 
 -- the time that remains has 16 bits here, and more than a panel's longest counts as that
 abbrev pub time_from : ℕ → ℕ → ℕ → Time
@@ -69,7 +69,7 @@ unpacked b =
 
 -- the same the other way: the controls as such bytes. A flag is 0 or 1
 abbrev pub flag_byte : Bool → ℕ
-flag_byte on = if on then 1 else 0
+flag_byte on = when on then 1 else 0
 
 abbrev pub target_byte : Target → ℕ
 target_byte Text = 0

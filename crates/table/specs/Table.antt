@@ -1,6 +1,6 @@
 -- Document 01, "Instructions": the table. Each byte is decided by its highest set bit and by RE.
 use Rattle.std.specs.Prelude.{ℕ, Bool, ltb}
-use Rattle.base.specs.Choice.{if◌then◌else◌}
+use Rattle.base.specs.Choice.{when◌then◌else◌}
 use Rattle.base.specs.Bits.{bit, bits5_0}
 use Rattle.table.specs.declared.Target.{Target}
 use Rattle.table.specs.declared.Target.TheVariants.{Text, Glyph, Graphic}
@@ -23,14 +23,14 @@ pub data Row : Type 0 where
 -- the row of a byte, by its highest set bit
 unfoldable pub row_of : ℕ → Row
 row_of b =
-    if ltb b 0x01 then 00h
-    else if ltb b 0x02 then 01h
-    else if ltb b 0x04 then 02h_03h
-    else if ltb b 0x08 then 04h_07h
-    else if ltb b 0x10 then 08h_0Fh
-    else if ltb b 0x20 then 10h_1Fh
-    else if ltb b 0x40 then 20h_3Fh
-    else if ltb b 0x80 then 40h_7Fh
+    when ltb b 0x01 then 00h
+    else when ltb b 0x02 then 01h
+    else when ltb b 0x04 then 02h_03h
+    else when ltb b 0x08 then 04h_07h
+    else when ltb b 0x10 then 08h_0Fh
+    else when ltb b 0x20 then 10h_1Fh
+    else when ltb b 0x40 then 20h_3Fh
+    else when ltb b 0x80 then 40h_7Fh
     else 80h_FFh
 
 -- the two columns of a row: RE = 0 ∣ RE = 1
@@ -49,14 +49,14 @@ if_text Glyph i = Ignored
 if_text Graphic i = Ignored
 
 abbrev pub if_sr0 : Bool → Instruction → Instruction
-if_sr0 sr i = if sr then Ignored else i
+if_sr0 sr i = when sr then Ignored else i
 
 abbrev pub if_sr1 : Bool → Instruction → Instruction
-if_sr1 sr i = if sr then i else Ignored
+if_sr1 sr i = when sr then i else Ignored
 
 -- 10h..1Fh: bit 3 = 0 moves the cursor, 1 the display; bit 2 = 0 to the left, 1 to the right
 abbrev pub moving : Target → ℕ → Instruction
-moving target b = if bit 3 b then MoveDisplay (bit 2 b) else if_text target (MoveCursor (bit 2 b))
+moving target b = when bit 3 b then MoveDisplay (bit 2 b) else if_text target (MoveCursor (bit 2 b))
 
 -- 20h..3Fh: bit 4 DL, bit 2 RE, bit 1 G
 abbrev pub function_set : ℕ → Instruction
@@ -84,4 +84,4 @@ extended_column m b = (table m (row_of b) b).extended
 
 -- what a byte says in the instruction set that RE chooses
 unfoldable pub said : Modes → ℕ → Instruction
-said m b = if m.re then extended_column m b else basic_column m b
+said m b = when m.re then extended_column m b else basic_column m b

@@ -7,14 +7,13 @@ use mathlib.Core.List.{List}
 use native.Mathlib.Omega.{arith}
 use native.Mathlib.Nat.{add-zero}
 use lib.ListN.{length, get_or, set}
-use lib.Dec.{eqb, ltb}
+use lib.Dec.{eqb}
 use lib.Bits.{bit_xor}
-use borrow.Author.Tests.{eqb-true, eqb-false, eq-eqb, ltb-true, ltb-false}
-use Rattle.base.specs.Choice.{if◌then◌else◌}
+use borrow.Author.Tests.{eqb-true, eqb-false, eq-eqb}
+use Rattle.base.specs.Choice.{when◌then◌else◌}
 use Rattle.base.specs.Lists.{upto}
 use Rattle.base.specs.Painting.{painted, everywhere, between}
 use Rattle.base.specs.Layout.{on, painted_on}
-use Rattle.base.proofs.Choice.{either-told}
 use Rattle.base.proofs.Tests.{alike, and_both, or_either, or_else}
 use Rattle.base.proofs.Lists.{get_or-upto, upto_cong}
 use Rattle.base.proofs.Painting.{painted-named, painted_same, painted_cong, painted-twice, painted_upto, as_long}
@@ -33,7 +32,7 @@ use Rattle.picture.proofs.Wide.{rows_lie}
 inverted-upto : (P : ℕ → Bool) (f : ℕ → ℕ) (n : ℕ) → painted P (λ i. 0xFF - get_or (upto n f) i 0) (upto n f) ≡ upto n (λ i. inverted (P i) (f i))
 inverted-upto P f n =
     painted_upto P (λ i. 0xFF - get_or (upto n f) i 0) f n
-    ∙ upto_cong n _ _ (λ i l. ap (λ (x : ℕ). if P i then 0xFF - x else f i) (get_or-upto n f i l))
+    ∙ upto_cong n _ _ (λ i l. ap (λ (x : ℕ). when P i then 0xFF - x else f i) (get_or-upto n f i l))
 
 -- stage over stage
 pub stages : (cursor blink reverse : Bool) (at end : ℕ) (t u v w : List ℕ)
@@ -302,7 +301,7 @@ graphic-of s row i h =
     let a : i % 32 ≡ 2 * (i % 32 / 2) + i % 32 % 2 = omega arith in
     omega arith
 
-alight : (d : Bool) (x : ℕ) → d ≡ false → (if d then 0x00 else x) ≡ x
+alight : (d : Bool) (x : ℕ) → d ≡ false → (when d then 0x00 else x) ≡ x
 alight d x h = rw h
 
 module _ (e : Fonts) (m : Memories) (look : Look) where
@@ -313,7 +312,7 @@ module _ (e : Fonts) (m : Memories) (look : Look) where
 
   -- a byte of the picture is the tile's, with the graphic over it
   byte_by_tile : (row column : ℕ) → byte_at e m look row column
-      ≡ (if look.dark then 0x00
+      ≡ (when look.dark then 0x00
       else overlaid look.graphic (graphic_byte m.graphic look.view row column)
       (tile_byte e m.text m.glyph look (shown_word look.view row (column / 2)) (2 * (shown_row look.view row % 16) + column % 2)))
   unfolding byte_at byte_over cell_byte tile_byte shown_word
@@ -379,9 +378,9 @@ pair_of left right = record { left = left; right = right }
 -- the two bytes of a cell, by its tile
 pub pair-shown-by : (tile graphic : List ℕ) (look : Look) (row cell : ℕ)
     → pair_of
-    (if look.dark then 0x00
+    (when look.dark then 0x00
     else overlaid look.graphic (get_or graphic (32 * shown_row look.view row + 2 * cell) 0) (get_or tile (2 * (shown_row look.view row % 16)) 0))
-    (if look.dark then 0x00
+    (when look.dark then 0x00
     else overlaid look.graphic (get_or graphic (32 * shown_row look.view row + 2 * cell + 1) 0) (get_or tile (2 * (shown_row look.view row % 16) + 1) 0))
     ≡ pair_by tile graphic look row cell
 unfolding shown_by graphic_byte

@@ -1,6 +1,6 @@
 -- Request K1: busy, with time. What is lost, what each transfer costs, and how time passes.
 use Rattle.std.specs.Prelude.{ℕ, ◌-◌, ◌*◌, Bool, false, ◌&&◌, ltb}
-use Rattle.base.specs.Choice.{if◌then◌else◌}
+use Rattle.base.specs.Choice.{when◌then◌else◌}
 use Rattle.table.specs.Table.{said}
 use Rattle.table.specs.Touches.{touches}
 use Rattle.table.specs.declared.Touch.{Touch}
@@ -17,7 +17,7 @@ busy c = ltb 0 c.time.remaining
 
 -- while busy, status shows bit 7 set
 abbrev pub busy_bit : Control → ℕ
-busy_bit c = if busy c then 0x80 else 0
+busy_bit c = when busy c then 0x80 else 0
 
 -- while busy a write that completes is lost, and so is a data read; a status read never is
 abbrev pub lost : Control → Transfer → Bool
@@ -42,7 +42,7 @@ cost c Read = 72
 
 -- what costs something makes a panel with time busy for as long
 abbrev pub charged : ℕ → Time → Time
-charged n t = record { timed = t.timed; remaining = if t.timed && ltb 0 n then n else t.remaining }
+charged n t = record { timed = t.timed; remaining = when t.timed && ltb 0 n then n else t.remaining }
 
 -- so many times 8 microseconds pass: the remaining time falls to 0 and no lower
 abbrev pub elapsed : ℕ → Time → Time

@@ -35,14 +35,14 @@ pub returns-in-GlyphHalf : goal.returns-in-GlyphHalf
 returns-in-GlyphHalf c =
     let a = c.args in
     let q =
-      at_its_most _ _ _ _ _ _ _
-      (c.paint_glyph_half.ensures ∙ glyph-painted (fonts a.half.now a.full.now) (memories a.text.now a.glyph.now a.graphic.now) a.look a.frame.now _ _) in
+    at_its_most _ _ _ _ _ _ _
+    (c.paint_glyph_half.ensures ∙ glyph-painted (fonts a.half.now a.full.now) (memories a.text.now a.glyph.now a.graphic.now) a.look a.frame.now _ _) in
     rw c.in-GlyphHalf.is (record { frame_after = q.0; most = q.1 })
 
 pub returns-in-GraphicHalf : goal.returns-in-GraphicHalf
 returns-in-GraphicHalf c =
     let a = c.args in
     let q =
-      at_its_most _ _ _ _ _ _ _
-      (c.paint_graphic_byte.ensures ∙ graphic-painted (fonts a.half.now a.full.now) (memories a.text.now a.glyph.now a.graphic.now) a.look a.frame.now _ _ _ _ c.byte_column-at.ensures.value) in
+    at_its_most _ _ _ _ _ _ _
+    (c.paint_graphic_byte.ensures ∙ graphic-painted (fonts a.half.now a.full.now) (memories a.text.now a.glyph.now a.graphic.now) a.look a.frame.now _ _ _ _ c.byte_column-at.ensures.value) in
     rw c.in-GraphicHalf.is (record { frame_after = q.0; most = q.1 })

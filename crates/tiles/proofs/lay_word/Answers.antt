@@ -1,5 +1,4 @@
 -- The tile of what the word shows.
-use Rattle.std.proofs.Common.{arith}
 use Rattle.picture.proofs.Bytes.{word-inside}
 use Rattle.tiles.proofs.lay_word.Goals as goal
 

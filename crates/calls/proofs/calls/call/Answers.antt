@@ -16,8 +16,8 @@ pub returns-then-timeless : goal.returns-then-timeless
 returns-then-timeless c =
     record {
       frame_after =
-        rw c.refused-then-timeless.ensures
-        (refuses-timeless _ _ _ _ _ c.refusal-number.ensures c.if-number-ne0.false (sym c.timeless.ensures ∙ c.if-timeless.true));
+          rw c.refused-then-timeless.ensures
+          (refuses-timeless _ _ _ _ _ c.refusal-number.ensures c.if-number-ne0.false (sym c.timeless.ensures ∙ c.if-timeless.true));
       valid = rw c.refused-then-timeless.ensures c.requires;
     }
 
@@ -31,8 +31,8 @@ pub returns-in-OtherLink : goal.returns-in-OtherLink
 returns-in-OtherLink c =
     record {
       frame_after =
-        rw c.refused-in-OtherLink.ensures
-        (refuses-other _ _ _ _ _ c.refusal-number.ensures c.if-number-ne0.false (sym c.timeless.ensures ∙ c.if-timeless.false) (sym c.in-OtherLink.is ∙ c.take-taken.ensures));
+          rw c.refused-in-OtherLink.ensures
+          (refuses-other _ _ _ _ _ c.refusal-number.ensures c.if-number-ne0.false (sym c.timeless.ensures ∙ c.if-timeless.false) (sym c.in-OtherLink.is ∙ c.take-taken.ensures));
       valid = rw c.refused-in-OtherLink.ensures c.requires;
     }
 
@@ -40,8 +40,8 @@ pub returns-in-Carries : goal.returns-in-Carries
 returns-in-Carries c =
     record {
       frame_after =
-        c.show.ensures
-        ∙ accepts _ _ _ _ _ c.refusal-number.ensures c.if-number-ne0.false (sym c.timeless.ensures ∙ c.if-timeless.false)
+          c.show.ensures
+          ∙ accepts _ _ _ _ _ c.refusal-number.ensures c.if-number-ne0.false (sym c.timeless.ensures ∙ c.if-timeless.false)
           c.in-Carries.carried (sym c.in-Carries.is ∙ c.take-taken.ensures) _ c.perform-done.ensures;
       valid = shown_in_range _ _ _ _ _ _ c.in-Carries.carried.rest c.show.ensures (done-fit _ _ c.requires _ _ _ c.perform-done.ensures);
     }

@@ -1,6 +1,6 @@
 -- By the refusal.
 use Rattle.std.proofs.Common.{sym, ◌∙◌}
-use Rattle.picture.proofs.Accepted.{accepted, draws, refuses}
+use Rattle.picture.proofs.Accepted.{accepted}
 use Rattle.drawing.proofs.afresh.draw.Goals as goal
 
 pub paint_whole-requires : goal.paint_whole-requires

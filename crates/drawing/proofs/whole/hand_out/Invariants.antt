@@ -1,5 +1,5 @@
 -- Row by row.
-use Rattle.std.proofs.Common.{◌≡◌, ◌+◌, ◌*◌, ◌-◌, ◌/◌, ◌%◌, ◌≤◌, length}
+use Rattle.std.proofs.Common.{◌≡◌, ◌+◌, ◌*◌, ◌-◌, ◌/◌, ◌%◌, ◌≤◌}
 use Rattle.base.specs.Painting.{painted, everywhere, between}
 use Rattle.picture.specs.Tiles.{from_tiles}
 use Rattle.drawing.proofs.whole.hand_out.Given as goal

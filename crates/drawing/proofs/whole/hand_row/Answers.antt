@@ -10,12 +10,11 @@ loop-cell-init c = (omega arith, none_yet _ _ _)
 
 pub loop-cell-preserved : goal.loop-cell-preserved
 loop-cell-preserved c =
-    let l = c.loop-cell in let a = c.args in let z : l.cell < 16 = omega arith in
-    (
+    let l = c.loop-cell in let a = c.args in let z : l.cell < 16 = omega arith in (
       omega arith,
       rw c.row_place-to.ensures
-      (two_further (from_tiles a.tiles.now a.y) _ _ _ _ _ (omega arith) l.invariant.1 _ _ (omega arith) (omega arith)
-      (taken-left a.tiles.now a.y a.row l.cell z) (taken-right a.tiles.now a.y a.row l.cell z)),
+          (two_further (from_tiles a.tiles.now a.y) _ _ _ _ _ (omega arith) l.invariant.1 _ _ (omega arith) (omega arith)
+          (taken-left a.tiles.now a.y a.row l.cell z) (taken-right a.tiles.now a.y a.row l.cell z)),
     )
 
 pub returns : goal.returns

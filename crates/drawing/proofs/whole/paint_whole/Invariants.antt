@@ -1,5 +1,5 @@
 -- Band by band.
-use Rattle.std.proofs.Common.{◌≡◌, ◌-◌, ◌≤◌, length}
+use Rattle.std.proofs.Common.{◌≡◌, ◌-◌, ◌≤◌}
 use Rattle.base.specs.Layout.{painted_on}
 use Rattle.controller.specs.Memories.{memories}
 use Rattle.picture.specs.Picture.{byte_at, wide}

@@ -1,5 +1,6 @@
 -- The table's rule, computed over all of it.
-use Rattle.glass.proofs.Natives.{natives, native_at, native_inside}
+use Rattle.glass.proofs.Natives.{natives}
+use Rattle.glass.proofs.LooksUp.{native_at, native_inside}
 use Rattle.glass.proofs.lookup.native.Goals as goal
 
 pub returns-clause-value : goal.returns-clause-value

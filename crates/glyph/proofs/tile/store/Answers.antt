@@ -1,5 +1,5 @@
 -- The bytes before it, and one byte further.
-use Rattle.std.proofs.Common.{◌≡◌, ◌<◌, arith}
+use Rattle.std.proofs.Common.{arith}
 use Rattle.base.proofs.Copies.{none_yet, one_further, block_at}
 use Rattle.glyph.proofs.tile.store.Goals as goal
 

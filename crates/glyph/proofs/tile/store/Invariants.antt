@@ -1,5 +1,5 @@
 -- Byte by byte.
-use Rattle.std.proofs.Common.{◌≡◌, ◌+◌, ◌-◌, ◌≤◌, length, get_or}
+use Rattle.std.proofs.Common.{◌≡◌, ◌+◌, ◌-◌, ◌≤◌, get_or}
 use Rattle.base.specs.Painting.{painted, everywhere, between}
 use Rattle.glyph.proofs.tile.store.Given as goal
 

@@ -1,5 +1,5 @@
 -- Row by row.
-use Rattle.std.proofs.Common.{◌≡◌, ◌+◌, ◌*◌, ◌-◌, ◌≤◌, length}
+use Rattle.std.proofs.Common.{◌≡◌, ◌+◌, ◌*◌, ◌-◌, ◌≤◌}
 use Rattle.base.specs.Painting.{painted, everywhere, between}
 use Rattle.glyph.specs.Tiles.{beside}
 use Rattle.glyph.proofs.tile.store_beside.Given as goal

@@ -1,5 +1,4 @@
 -- The dots marked, inverted and overlaid.
-use Rattle.std.proofs.Common.{rules}
 use Rattle.picture.proofs.Bytes.{over_dots}
 use Rattle.picture.proofs.paint.byte_over.Goals as goal
 

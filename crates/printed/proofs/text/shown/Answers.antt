@@ -2,12 +2,12 @@
 use Rattle.std.proofs.Common.{◌≡◌, ℕ, ◌≤◌, ◌<◌, refl, arith}
 use Rattle.capture.specs.Kinds.{Kind, reads, kind_of}
 use Rattle.capture.proofs.ByKind.{by_kind}
-use Rattle.base.specs.Choice.{if◌then◌else◌}
+use Rattle.base.specs.Choice.{when◌then◌else◌}
 use Rattle.printed.proofs.text.shown.Goals as goal
 
 module _ (kind character : ℕ) where
   abbrev Says : ℕ → Kind → Type 0
-  Says n k = n ≡ (if reads k then character else 0x2D)
+  Says n k = n ≡ (when reads k then character else 0x2D)
 
   two_or_three : 2 ≤ kind → kind < 4 → Says character (kind_of kind)
   two_or_three l h =
