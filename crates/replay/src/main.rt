@@ -14,7 +14,6 @@ use panel::Panel;
 use playback::Stop;
 use std::io;
 use std::io::Read;
-use std::process::ExitCode;
 
 // Whether the panel is to have time, and whether there are other arguments, which has been said.
 #[derive(Clone, Copy)]
@@ -156,29 +155,21 @@ fn part(rt: &HostRuntime, panel: Panel, place: usize, frame: &mut [u8; 1024]) ->
     }
 }
 
-// The last line; answers how the program ends, 3 where a record was refused, 1 where something has failed. That a record was refused is
-// said on standard error too, for `./run`.
-fn print_last(rt: &HostRuntime, place: usize, number: u8, unread: bool) -> ExitCode {
+// The last line. The program's status says nothing: that a record was refused is said on standard error too, for `./run`.
+fn print_last(rt: &HostRuntime, place: usize, number: u8) {
     let mut text = [0u8; 48];
     let n = printed::put_last(&mut text, place, number);
-    let written = print(rt, &text[..n]);
+    print(rt, &text[..n]);
     if number != 0 {
         say(rt, b"replay: stopped\n");
     }
-    if unread || !written {
-        return ExitCode::FAILURE;
-    }
-    if number != 0 {
-        return ExitCode::from(3);
-    }
-    ExitCode::SUCCESS
 }
 
 // Part after part. A refusal stops the replay also where the read after it failed.
-fn main(rt: HostRuntime) -> ExitCode {
+fn main(rt: HostRuntime) {
     let asked = from_arguments(&rt);
     if asked.refused {
-        return ExitCode::FAILURE;
+        return;
     }
     let mut frame = [0u8; 1024];
     let mut panel = Panel::fresh(Made {
@@ -191,20 +182,22 @@ fn main(rt: HostRuntime) -> ExitCode {
         let came = part(&rt, panel, place, &mut frame);
         let stop = came.stop;
         if came.unwritten {
-            return ExitCode::FAILURE;
+            return;
         }
         if stop.number != 0 {
-            return print_last(&rt, stop.place, stop.number, came.unread);
+            print_last(&rt, stop.place, stop.number);
+            return;
         }
         if came.unread {
-            return ExitCode::FAILURE;
+            return;
         }
         if stop.full {
             say(&rt, b"replay: too many records\n");
-            return ExitCode::FAILURE;
+            return;
         }
         if came.bytes < 4096 {
-            return print_last(&rt, stop.place, 0, false);
+            print_last(&rt, stop.place, 0);
+            return;
         }
         panel = stop.panel;
         place = stop.place;

@@ -8,7 +8,6 @@ use asked::{files, saying};
 use host::{created, opened, word_at};
 use replaying::{Ended, replayed};
 use std::io::{Read, Write};
-use std::process::ExitCode;
 
 mod listing;
 mod replaying;
@@ -46,99 +45,63 @@ fn caption(rt: &HostRuntime, ended: Ended) {
     add(rt, b"\n");
 }
 
-// A picture file, by the number of the argument that names it; answers whether it was written.
-fn write_picture(rt: &HostRuntime, at: usize, frame: &[u8; 1024]) -> bool {
+// A picture file, by the number of the argument that names it.
+fn write_picture(rt: &HostRuntime, at: usize, frame: &[u8; 1024]) {
     let mut room = [0u8; 4096];
     let name = word_at(rt, at, &mut room);
     let mut file = match created(rt, name) {
         Ok(file) => file,
         Err(error) => {
             failed(rt, name, error);
-            return false;
+            return;
         }
     };
     let picture = frame_view::pbm(frame);
-    match file.write_all(&picture) {
-        Ok(()) => true,
-        Err(error) => {
-            failed(rt, name, error);
-            false
-        }
+    if let Err(error) = file.write_all(&picture) {
+        failed(rt, name, error);
     }
 }
 
-// Whether the glass could be shown, and whether standard output took what there was for it.
-#[derive(Clone, Copy)]
-struct Shown {
-    pub well: bool,
-    pub printed: bool,
-}
-
-// The glass, as it is asked for.
-fn picture(rt: &HostRuntime, asked: Asked, frame: &[u8; 1024], ended: Ended) -> Shown {
+// The glass, as it is asked for; answers whether standard output took what there was for it.
+fn picture(rt: &HostRuntime, asked: Asked, frame: &[u8; 1024], ended: Ended) -> bool {
     let files = asked.files;
     if files.pbm != 0 {
-        let well = write_picture(rt, files.pbm, frame);
-        return Shown {
-            well,
-            printed: true,
-        };
+        write_picture(rt, files.pbm, frame);
+        return true;
     }
     if asked.plain {
         let text = frame_view::plain(frame);
-        let printed = print(rt, &text);
-        return Shown {
-            well: printed,
-            printed,
-        };
+        return print(rt, &text);
     }
     let text = frame_view::braille(frame);
-    let printed = print(rt, &text);
-    if printed {
+    let written = print(rt, &text);
+    if written {
         caption(rt, ended);
     }
-    Shown {
-        well: printed,
-        printed,
-    }
+    written
 }
 
-// Which glyphs a full font of `length` bytes lacks; answers whether that could be written.
-fn list_missing(rt: &HostRuntime, ended: Ended, length: usize) -> bool {
+// Which glyphs a full font of `length` bytes lacks.
+fn list_missing(rt: &HostRuntime, ended: Ended, length: usize) {
     let panel = ended.panel;
     let control = panel.control;
-    match listing::list(rt, &panel.text, control.view, length) {
-        Ok(()) => true,
-        Err(error) => {
-            failed(rt, b"standard output", error);
-            false
-        }
+    if let Err(error) = listing::list(rt, &panel.text, control.view, length) {
+        failed(rt, b"standard output", error);
     }
-}
-
-// How the program ends: 3 where a record was refused, 1 where something has failed, which has been said.
-fn status(well: bool, number: u8) -> ExitCode {
-    if !well {
-        return ExitCode::FAILURE;
-    }
-    if number != 0 {
-        return ExitCode::from(3);
-    }
-    ExitCode::SUCCESS
 }
 
 // Shows the capture that a reader gives; `file` is its name in messages.
-fn show<R: Read>(rt: &HostRuntime, asked: Asked, from: &mut R, file: &[u8]) -> ExitCode {
+fn show<R: Read>(rt: &HostRuntime, asked: Asked, from: &mut R, file: &[u8]) {
     let files = asked.files;
     let mut half = half_font::built_in();
     let halves = files::half_font(rt, files.half, &mut half);
     if !halves.well {
-        return ExitCode::FAILURE;
+        return;
     }
     let mut full = files::full_buffer();
     let fulls = files::full_font(rt, files.full, &mut full);
     if !fulls.well {
-        return ExitCode::FAILURE;
+        return;
     }
     let m = halves.count;
     let n = fulls.count;
@@ -153,51 +116,42 @@ fn show<R: Read>(rt: &HostRuntime, asked: Asked, from: &mut R, file: &[u8]) -> E
         asked.phase,
     );
     // After a failed read, what was replayed is shown all the same.
-    let mut well = true;
     if let Some(error) = ended.failure {
         failed(rt, file, error);
         if ended.records == 0 {
-            return ExitCode::FAILURE;
+            return;
         }
-        well = false;
     }
-    let shown = picture(rt, asked, &frame, ended);
-    if !shown.well {
-        well = false;
-    }
-    if shown.printed && asked.missing && !list_missing(rt, ended, n) {
-        well = false;
+    if picture(rt, asked, &frame, ended) && asked.missing {
+        list_missing(rt, ended, n);
     }
     if ended.number != 0 {
         saying::stopped(rt, file, ended.records, ended.number, asked.time);
     }
-    status(well, ended.number)
 }
 
-fn show_file(rt: &HostRuntime, asked: Asked, at: usize) -> ExitCode {
+fn show_file(rt: &HostRuntime, asked: Asked, at: usize) {
     let mut room = [0u8; 4096];
     let name = word_at(rt, at, &mut room);
     match opened(rt, name) {
         Ok(mut file) => show(rt, asked, &mut file, name),
-        Err(error) => {
-            failed(rt, name, error);
-            ExitCode::FAILURE
-        }
+        Err(error) => failed(rt, name, error),
     }
 }
 
-fn main(rt: HostRuntime) -> ExitCode {
+fn main(rt: HostRuntime) {
     let asked = Asked::from_arguments(&rt);
     if asked.refused {
-        return ExitCode::FAILURE;
+        return;
     }
     if asked.help {
         saying::usage(&rt.stdout());
-        return ExitCode::SUCCESS;
+        return;
     }
     let files = asked.files;
     if files.capture == 0 {
-        return show(&rt, asked, &mut rt.stdin(), b"standard input");
+        show(&rt, asked, &mut rt.stdin(), b"standard input");
+        return;
     }
-    show_file(&rt, asked, files.capture)
+    show_file(&rt, asked, files.capture);
 }
