@@ -1,5 +1,5 @@
-//! The four C functions of the toolchain's library `os` that our programs reach, for processors other than x86-64: the toolchain has
-//! them compiled for x86-64 alone. `tools/native` links them in place of those, and only there.
+//! What our programs reach of the toolchain's own C functions, for processors other than x86-64: the toolchain has them compiled for x86-64
+//! alone. `tools/native` links them in place of those, and only there.
 use std::os::unix::ffi::OsStringExt;
 
 extern "C" {
@@ -42,4 +42,13 @@ pub unsafe extern "C" fn rattle_arg(i: usize, buffer: *mut u8, length: usize) ->
     } else {
         -2
     }
+}
+
+/// What a program asks of an x86-64 processor as it starts: whether that has what the code wants. Here the code is another processor's, and
+/// every bit answers yes.
+static LEAF: [u32; 8] = [u32::MAX; 8];
+
+#[no_mangle]
+pub extern "C" fn __x86_get_cpuid_feature_leaf(_leaf: u32) -> *const u32 {
+    LEAF.as_ptr()
 }
