@@ -8,3 +8,4 @@ pub mod Layouts
 pub mod Copies
 pub mod Parts
 pub mod Below
+pub mod FromFn

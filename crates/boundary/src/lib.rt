@@ -1,5 +1,6 @@
-// Functions for C or Rust to link, which crate `boundary_c` exports as they stand here: numbers and byte slices alone cross the border. A
-// state crosses it as 2,341 bytes, and its controls alone as 27 of them. Nothing is asked of a caller. Two panels on one wire are in `pair.rt`.
+// Functions for C or Rust to link, which crate `boundary_c` exports as they stand here: numbers and byte slices alone cross the border, so
+// what this side has as types (a refusal, what is lent, a clock) crosses it by its parts. A state crosses it as 2,341 bytes, and its controls
+// alone as 27 of them. Nothing is asked of a caller. Two panels on one wire are in `pair.rt`.
 #![tactic(auto)]
 
 mod pair;
@@ -17,7 +18,8 @@ use controller::controls::numbering;
 use events::Made;
 pub use pair::zifqarell_pair_bit;
 use panel::Panel;
-use picture::refusals::refusal;
+use picture::lent::Lent;
+use playback::Halt;
 use spelling::{last_bytes, spell_state};
 use unpacking::unpack;
 
@@ -34,15 +36,15 @@ pub fn zifqarell_draw(
 ) -> u8
     ensures { drawing result frame.new ≡ drawn (seen half.now full.now phase) (memories text.now glyph.now graphic.now) (unpacked control.now) frame.old }
 {
-    let control = unpack(control);
-    drawing::draw(text, glyph, graphic, control, frame, half, full, phase)
+    let lent = Lent { half, full, phase };
+    refusals::number(&drawing::draw(text, glyph, graphic, unpack(control), frame, &lent))
 }
 
 // Puts the three bytes that carry a write over the serial link into the buffer, and answers 0 or the refusal's number.
 pub fn zifqarell_send(register: bool, byte: u8, buffer: &mut [u8]) -> u8
     ensures { leaving result buffer.new ≡ sent register byte buffer.old }
 {
-    sender::send(register, byte, buffer)
+    refusals::number(&sender::send(register, byte, buffer))
 }
 
 // Replays a capture on a fresh panel, with or without time, by the old numbering or the new (`by160`), and answers the number with which
@@ -63,19 +65,20 @@ pub fn zifqarell_replay(
 ) -> u8
     ensures { report result frame.new state.new last.new ≡ fresh_replay (record { parallel = parallel; time = time; numbering = numbering_of by160 }) (seen half.now full.now phase) capture.now frame.old state.old last.old }
 {
-    let number = refusal(frame.len(), half.len(), full.len());
-    if number != 0 {
-        return number;
+    let lent = Lent { half, full, phase };
+    if let Err(refusal) = lent.check_lengths(frame.len()) {
+        return refusal.into();
     }
-    let numbering = numbering(by160);
     let fresh = Panel::fresh(Made {
         parallel,
         time,
-        numbering,
+        numbering: numbering(by160),
     });
-    let stop = playback::replay(fresh, capture, frame, half, full, phase);
-    let panel = stop.panel;
-    spell_state(panel, state);
+    let stop = playback::replay(fresh, capture, frame, &lent);
+    spell_state(stop.panel, state);
     *last = last_bytes(stop.place, stop.reply, stop.count);
-    stop.number
+    match stop.halt {
+        Halt::Refused(refusal) => refusal.into(),
+        Halt::End | Halt::Full => 0,
+    }
 }

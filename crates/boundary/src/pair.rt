@@ -4,6 +4,9 @@ ghost use Rattle.controller.specs.Memories.{memories};
 ghost use Rattle.picture.specs.Picture.{seen};
 ghost use Rattle.pair_bytes.specs.Report.{side_bytes, pair_report, pair_reported};
 
+use lent_pair::Clock;
+use picture::lent::Lent;
+
 // A clock of the wire comes to two panels that the caller keeps as bytes: the bit, and both selects. Answers the refusal number in bits
 // 7..0, the left panel's count in bits 19..8 and the right's in bits 31..20. Refused it leaves all that it was lent. A panel's five parts are
 // those of the 2,341 bytes that `zifqarell_replay` leaves, from 0, 128, 256, 2304 and 2331 on. All that is written lies apart.
@@ -32,6 +35,21 @@ pub fn zifqarell_pair_bit(
 ) -> u32
     ensures { pair_report result (side_bytes (memories left_text.new left_glyph.new left_graphic.new) left_control.new left_link.new left_frame.new) (side_bytes (memories right_text.new right_glyph.new right_graphic.new) right_control.new right_link.new right_frame.new) ≡ pair_reported (seen left_half.now left_full.now left_phase) (side_bytes (memories left_text.old left_glyph.old left_graphic.old) left_control.old left_link.old left_frame.old) (seen right_half.now right_full.now right_phase) (side_bytes (memories right_text.old right_glyph.old right_graphic.old) right_control.old right_link.old right_frame.old) (record { bit = bit; left = left_select; right = right_select }) }
 {
+    let clock = Clock {
+        bit,
+        left: left_select,
+        right: right_select,
+    };
+    let left_lent = Lent {
+        half: left_half,
+        full: left_full,
+        phase: left_phase,
+    };
+    let right_lent = Lent {
+        half: right_half,
+        full: right_full,
+        phase: right_phase,
+    };
     pair_bytes::bit(
         left_text,
         left_glyph,
@@ -43,16 +61,10 @@ pub fn zifqarell_pair_bit(
         right_graphic,
         right_control,
         right_link,
-        bit,
-        left_select,
-        right_select,
+        clock,
         left_frame,
-        left_half,
-        left_full,
-        left_phase,
+        &left_lent,
         right_frame,
-        right_half,
-        right_full,
-        right_phase,
+        &right_lent,
     )
 }

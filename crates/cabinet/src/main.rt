@@ -3,187 +3,115 @@
 // What is read and written is no matter of a contract; what the panels do is `pair`'s, and the text `frame_view`'s.
 #![tactic(auto)]
 
-ghost use Rattle.std.specs.Prelude.{◌≤◌, length};
 ghost use Rattle.calls.specs.State.{Valid};
 ghost use Rattle.panel.specs.Handed.{state_of};
 
 use events::{Made, Numbering};
 use host::fail;
-use lent_pair::Clock;
+use lent_pair::{Clock, Sides};
 use pair::Pair;
 use panel::Panel;
+use picture::lent::Lent;
 use std::io;
 use std::io::Read;
+use std::marker::Model;
 
-// The pair, how many clocks it has had, whether the wire may go on, and whether all could be read.
-#[derive(Clone, Copy)]
-struct Heard {
-    pub pair: Pair,
-    pub clocks: u64,
-    pub more: bool,
-    pub well: bool,
-}
-
-// A wire heard: its clocks, and whether all could be read.
-#[derive(Clone, Copy)]
-struct Wire {
-    pub clocks: u64,
-    pub well: bool,
-}
-
-// A fresh serial panel, without time.
-fn fresh() -> Panel
-    ensures { Valid (state_of result) }
-{
-    Panel::fresh(Made {
-        parallel: false,
-        time: false,
-        numbering: Numbering::By96,
-    })
-}
-
-// A clock. Both panels are lent the same half font and no full one, and neither blinks.
-fn hear_clock(
+// The pair, its frames, and how many clocks it has had.
+#[derive(Drop)]
+struct Cabinet {
     pair: Pair,
-    inputs: u8,
-    left_frame: &mut [u8; 1024],
-    right_frame: &mut [u8; 1024],
-    half: &[u8],
-) -> Pair
-    requires { Valid (state_of pair.left) × Valid (state_of pair.right) }
-    ensures { Valid (state_of result.left) × Valid (state_of result.right) }
-{
-    let full = [0u8; 0];
-    let clock = Clock {
-        bit: inputs % 2 == 1,
-        left: inputs / 2 % 2 == 1,
-        right: inputs / 4 % 2 == 1,
-    };
-    let outcome = pair.bit(
-        clock,
-        left_frame,
-        half,
-        &full,
-        false,
-        right_frame,
-        half,
-        &full,
-        false,
-    );
-    outcome.pair
-}
-
-// A part of the wire, clock by clock.
-fn hear(
-    pair: Pair,
-    wire: &[u8],
-    left_frame: &mut [u8; 1024],
-    right_frame: &mut [u8; 1024],
-    half: &[u8],
-) -> Pair
-    requires { Valid (state_of pair.left) × Valid (state_of pair.right) × (length wire.now ≤ 4096) }
-    ensures { Valid (state_of result.left) × Valid (state_of result.right) }
-{
-    let mut next = pair;
-    for at in 0..wire.len() {
-        next = hear_clock(next, wire[at], left_frame, right_frame, half);
-    }
-    next
-}
-
-// One read of standard input, heard.
-fn part(
-    rt: &HostRuntime,
-    before: Heard,
-    left_frame: &mut [u8; 1024],
-    right_frame: &mut [u8; 1024],
-    half: &[u8],
-) -> Heard
-    requires { Valid (state_of before.pair.left) × Valid (state_of before.pair.right) }
-    ensures { Valid (state_of result.pair.left) × Valid (state_of result.pair.right) }
-{
-    let mut input = [0u8; 4096];
-    let mut well = true;
-    let n = match rt.stdin().read(&mut input) {
-        Ok(n) => n,
-        Err(error) => {
-            fail(&rt.stderr(), b"cabinet: standard input", error);
-            well = false;
-            0
-        }
-    };
-    let pair = hear(before.pair, &input[..n], left_frame, right_frame, half);
-    Heard {
-        pair,
-        clocks: before.clocks.wrapping_add(n as u64),
-        more: n > 0,
-        well,
-    }
-}
-
-fn show(rt: &HostRuntime, name: &[u8], frame: &[u8; 1024]) -> io::Result<()> {
-    let text = frame_view::braille(frame);
-    rt.write_all(name)?;
-    rt.write_all(&text)
-}
-
-fn hear_all(
-    rt: &HostRuntime,
-    left_frame: &mut [u8; 1024],
-    right_frame: &mut [u8; 1024],
-    half: &[u8],
-) -> Wire {
-    let mut heard = Heard {
-        pair: Pair {
-            left: fresh(),
-            right: fresh(),
-        },
-        clocks: 0,
-        more: true,
-        well: true,
-    };
-    // As many reads as there may be: no wire is so long.
-    let mut reads = u64::MAX;
-    while reads > 0 {
-        heard = part(rt, heard, left_frame, right_frame, half);
-        if !heard.more {
-            reads = 0;
-        } else {
-            reads -= 1;
-        }
-    }
-    Wire {
-        clocks: heard.clocks,
-        well: heard.well,
-    }
-}
-
-fn count(rt: &HostRuntime, clocks: u64) -> io::Result<()> {
-    println!(rt; "{clocks} clocks")
-}
-
-// Both glasses, and how many clocks there were.
-fn show_both(
-    rt: &HostRuntime,
-    left_frame: &[u8; 1024],
-    right_frame: &[u8; 1024],
+    frames: Sides<[u8; 1024]>,
     clocks: u64,
-) -> io::Result<()> {
-    show(rt, b"left\n", left_frame)?;
-    show(rt, b"right\n", right_frame)?;
-    count(rt, clocks)
+}
+
+// No contract says anything of it but that its panels are valid.
+impl Model for Cabinet {
+    ghost Value = { Unit {0} };
+
+    ghost view = { λ _. tt };
+
+    ghost invariant = { λ c. Valid (state_of c.pair.left) × Valid (state_of c.pair.right) };
+}
+
+impl Cabinet {
+    // Two fresh serial panels, without time.
+    fn fresh() -> Cabinet {
+        let panel = Panel::fresh(Made {
+            parallel: false,
+            time: false,
+            numbering: Numbering::By96,
+        });
+        Cabinet {
+            pair: Pair {
+                left: panel,
+                right: panel,
+            },
+            frames: Sides {
+                left: [0; 1024],
+                right: [0; 1024],
+            },
+            clocks: 0,
+        }
+    }
+
+    // A clock. Both panels are lent the same, in two copies: the borrow checker does not cover one that is passed twice.
+    fn hear(&mut self, inputs: u8, lent: &Lent) {
+        let clock = Clock {
+            bit: inputs & 1 != 0,
+            left: inputs & 2 != 0,
+            right: inputs & 4 != 0,
+        };
+        let copy = *lent;
+        let left = &mut self.frames.left;
+        let right = &mut self.frames.right;
+        if let Ok(outcome) = self.pair.bit(clock, left, lent, right, &copy) {
+            self.pair = outcome.pair;
+        }
+        self.clocks = self.clocks.wrapping_add(1);
+    }
+
+    // All of the wire, or what of it comes before a read that fails. As many reads as there may be: no wire is so long.
+    fn hear_all(&mut self, rt: &HostRuntime, lent: &Lent) -> io::Result<()> {
+        let mut input = [0u8; 4096];
+        for _ in 0..u64::MAX {
+            let n = rt.stdin().read(&mut input)?;
+            if n == 0 {
+                break;
+            }
+            for inputs in &input[..n] {
+                self.hear(*inputs, lent);
+            }
+        }
+        Ok(())
+    }
+
+    // Both glasses, and how many clocks there were.
+    fn show(&self, rt: &HostRuntime) -> io::Result<()> {
+        let clocks = self.clocks;
+        rt.write_all(b"left\n")?;
+        rt.write_all(&frame_view::braille(&self.frames.left))?;
+        rt.write_all(b"right\n")?;
+        rt.write_all(&frame_view::braille(&self.frames.right))?;
+        println!(rt; "{clocks} clocks")
+    }
 }
 
 fn main(rt: HostRuntime) {
     let half = half_font::built_in();
-    let mut left_frame = [0u8; 1024];
-    let mut right_frame = [0u8; 1024];
-    let wire = hear_all(&rt, &mut left_frame, &mut right_frame, &half[..2048]);
+    let lent = Lent {
+        half: &half[..2048],
+        full: &[],
+        phase: false,
+    };
+    let mut cabinet = Cabinet::fresh();
     // After a failed read, what was heard is shown all the same.
-    if wire.clocks == 0 && !wire.well {
-        return;
+    if let Err(error) = cabinet.hear_all(&rt, &lent) {
+        fail(&rt.stderr(), b"cabinet: standard input", error);
+        if cabinet.clocks == 0 {
+            return;
+        }
     }
-    if let Err(error) = show_both(&rt, &left_frame, &right_frame, wire.clocks) {
+    if let Err(error) = cabinet.show(&rt) {
         fail(&rt.stderr(), b"cabinet: standard output", error);
     }
 }

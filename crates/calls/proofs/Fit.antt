@@ -22,7 +22,7 @@ use Rattle.links.specs.declared.Rest.{Rest}
 use Rattle.picture.specs.Picture.{Seen}
 use Rattle.repaint.specs.Repaint.{RegionWithin}
 use Rattle.repaint.proofs.RegionsWithin.{instruction-within, write-within, read-within}
-use Rattle.calls.specs.Calls.{Called, accepted, left}
+use Rattle.calls.specs.Calls.{Called, accepted, left_accepted}
 use Rattle.calls.specs.declared.LentOutcome.{LentOutcome}
 
 pub record Fit (d : Done) : Type 0 where
@@ -64,7 +64,7 @@ module _ (m : Memories) (c : Control) (r : InRange c) where
 -- and what is shown of it hands on controls in range
 pub shown_in_range :
     (r : LentOutcome) (m : Memories) (f g : List ℕ) (e : Seen) (done : Done) (rest : Rest)
-    → left r m f ≡ accepted e g (acted m done) rest
+    → left_accepted r m f ≡ accepted e g (acted m done) rest
     → Fit done
-    → InRange r.control
+    → InRange r.kept.control
 shown_in_range r m f g e done rest h fit = subst InRange (sym (ap (λ (k : Called). k.state.control) h)) fit.control

@@ -1,4 +1,4 @@
-pub mod Kept
+pub mod StaysInRange
 pub mod Serial
 pub mod Doors
 pub mod Fit

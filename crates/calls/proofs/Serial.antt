@@ -1,4 +1,5 @@
 -- A bit, or chip select low, on a serial link: it is accepted, nothing is replied, and the link stays serial.
+use Rattle.std.proofs.Common.{Option, Some, None}
 use Prim.Native.Nat.{ℕ}
 use mathlib.Core.Bool.{Bool, true, false, true≢false}
 use mathlib.Core.List.{List}
@@ -12,7 +13,6 @@ use Rattle.events.specs.declared.Event.TheVariants.{Bit, SelectLow}
 use Rattle.events.specs.declared.Transfer.TheVariants.{Instruct, Write}
 use Rattle.events.specs.declared.Deed.TheVariants.{Whole}
 use Rattle.serial.specs.declared.Received.{Received}
-use Rattle.serial.specs.declared.Received.TheVariants as received
 use Rattle.serial.specs.Serial.{heard}
 use Rattle.links.specs.declared.Link.{Link}
 use Rattle.links.specs.declared.Link.TheVariants.{Parallel, Serial}
@@ -22,7 +22,7 @@ use Rattle.links.specs.Taken.{deed_of, taken_by}
 use Rattle.picture.specs.Picture.{Seen}
 use Rattle.calls.specs.State.{State}
 use Rattle.calls.specs.Calls.{Called, unless_other, Fits, called}
-use Rattle.calls.proofs.Kept.{admitted}
+use Rattle.calls.proofs.StaysInRange.{admitted}
 
 -- no write is replied to
 module _ (m : Memories) (c : Control) where
@@ -31,10 +31,10 @@ module _ (m : Memories) (c : Control) where
   write-reply false byte = either (λ (a : Acted). a.done.reply ≡ 0) (lost c (Instruct byte)) refl refl
   write-reply true byte = either (λ (a : Acted). a.done.reply ≡ 0) (lost c (Write byte)) refl refl
 
-  pub received-reply : (r : Received) → (performed m c (deed_of r)).done.reply ≡ 0
+  pub received-reply : (r : Option Received) → (performed m c (deed_of r)).done.reply ≡ 0
   unfolding performed
-  received-reply received.Nothing = refl
-  received-reply (received.Byte register byte) = write-reply register byte
+  received-reply None = refl
+  received-reply (Some received) = write-reply received.register received.byte
 
 pub record TakenSilently (k : Called) : Type 0 where
   pub number : k.number ≡ 0

@@ -1,5 +1,6 @@
 -- Document 01, "Refusal numbers": each call whole, with its refusals, its answer, and what it leaves in the state and the frame.
-use Rattle.std.specs.Prelude.{ℕ, Bool, false, not, List, [], ◌∷◌, ◌≡◌, length, eqb}
+use Rattle.std.specs.Prelude.{ℕ, Bool, false, not, List, [], ◌∷◌, eqb, None, Option, Some, Result, Ok, Err}
+use Rattle.links.specs.declared.Carried.{Carried}
 use Rattle.base.specs.Choice.{when◌then◌else◌}
 use Rattle.controller.specs.declared.Control.{Control}
 use Rattle.controller.specs.Memories.{Memories}
@@ -8,17 +9,17 @@ use Rattle.events.specs.declared.Event.{Event}
 use Rattle.events.specs.declared.Event.TheVariants.{Transfer, Bit, SelectLow, Reset, Pass}
 use Rattle.events.specs.declared.Deed.{Deed}
 use Rattle.events.specs.declared.Deed.TheVariants.{Nothing}
-use Rattle.links.specs.declared.Link.{Link}
 use Rattle.links.specs.declared.Rest.{Rest}
-use Rattle.links.specs.declared.Taken.{Taken}
-use Rattle.links.specs.declared.Taken.TheVariants.{OtherLink, Carries}
 use Rattle.links.specs.Taken.{taken_by, replied}
 use Rattle.picture.specs.Picture.{Seen, look_of, wide}
 use Rattle.picture.specs.Refusals.{lent_refusal}
 pub use Rattle.picture.specs.Refusals.{Fits}
+use Rattle.refusals.specs.declared.Refusal.{Refusal}
+use Rattle.refusals.specs.Numbers.{refusal_number}
 use Rattle.repaint.specs.Repaint.{repainted, count_named}
+use Rattle.calls.specs.declared.Kept.{Kept}
 use Rattle.calls.specs.declared.LentOutcome.{LentOutcome}
-use Rattle.calls.specs.State.{State, state}
+use Rattle.calls.specs.State.{State, state, kept_state}
 
 -- all that a call leaves: the state, the refusal number, the reply, the count and the frame
 pub record Called : Type 0 where
@@ -44,18 +45,18 @@ accepted e frame a rest =
     }
 
 -- refusal 5, checked last; else what reaches the controller is done
-abbrev pub unless_other : Seen → State → List ℕ → Taken → Called
-unless_other e s frame OtherLink = refused s frame 5
-unless_other e s frame (Carries c) = accepted e frame (performed s.memories s.control c.deed) c.rest
+abbrev pub unless_other : Seen → State → List ℕ → Option Carried → Called
+unless_other e s frame None = refused s frame 5
+unless_other e s frame (Some c) = accepted e frame (performed s.memories s.control c.deed) c.rest
 
 -- what the panel's link makes of an event
-abbrev pub taken_on : State → Event → Taken
+abbrev pub taken_on : State → Event → Option Carried
 taken_on s event = taken_by s.control.function.dl s.link event
 
 -- what of it reaches the controller: of an event of the other link nothing
-abbrev pub reaching : Taken → Deed
-reaching OtherLink = Nothing
-reaching (Carries c) = c.deed
+abbrev pub reaching : Option Carried → Deed
+reaching None = Nothing
+reaching (Some c) = c.deed
 
 -- refusal 8: time passes, but the panel has no time
 abbrev pub timeless : Control → Event → Bool
@@ -76,14 +77,14 @@ called e s frame event =
     then unless_timeless e s frame event
     else refused s frame (lent_refusal e frame)
 
--- the answer of a refused call on lent memories
-abbrev pub refused_outcome : Control → Link → ℕ → LentOutcome
-refused_outcome c l number = record { control = c; link = l; number = number; reply = 0; count = 0 }
+-- what an accepted call on lent memories leaves
+abbrev pub left_accepted : LentOutcome → Memories → List ℕ → Called
+left_accepted r m frame = record { state = kept_state m r.kept; number = 0; reply = r.reply; count = r.count; frame = frame }
 
--- what a call on lent memories leaves
-abbrev pub left : LentOutcome → Memories → List ℕ → Called
-left r m frame =
-    record { state = state m r.control r.link; number = r.number; reply = r.reply; count = r.count; frame = frame }
+-- and any, of a panel of which this was kept: it is what is still kept after a refused one
+abbrev pub left : Kept → Result LentOutcome Refusal → Memories → List ℕ → Called
+left kept (Ok r) m frame = left_accepted r m frame
+left kept (Err refusal) m frame = refused (kept_state m kept) frame (refusal_number refusal)
 
 -- the state and the frame, where a sequence of calls stands
 pub record Stands : Type 0 where

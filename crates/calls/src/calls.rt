@@ -1,35 +1,25 @@
 // A call on memories that the caller keeps and lends, for a board where a serial link brings one for every bit. It leaves what the call
 // by value leaves.
-ghost use Rattle.std.specs.Prelude.{◌≡◌, length};
+//
+// The three memories stay three parameters: C lends them apart, and a struct that holds them as `&mut` would have each clause say besides
+// which loans its fields are.
+ghost use Rattle.std.specs.Prelude.{◌≡◌, length, IfOk};
 ghost use Rattle.controller.specs.Memories.{memories};
 ghost use Rattle.controller.specs.State.{InRange};
 ghost use Rattle.deeds.specs.Transfers.{acted};
-ghost use Rattle.picture.specs.Picture.{seen};
+ghost use Rattle.picture.specs.Lent.{seen_by};
 ghost use Rattle.repaint.specs.Repaint.{RegionWithin};
-ghost use Rattle.calls.specs.State.{state};
-ghost use Rattle.calls.specs.Calls.{refused_outcome, accepted, timeless, called, left};
+ghost use Rattle.calls.specs.State.{kept_state};
+ghost use Rattle.calls.specs.Calls.{accepted, timeless, called, left_accepted, left};
 
-use crate::LentOutcome;
+use crate::{Kept, LentOutcome};
 use controller::Control;
 use deeds::{Done, perform};
 use events::Event;
-use links::{Link, Rest, Taken};
-use picture::looks::look;
-use picture::refusals::refusal;
+use links::Rest;
+use picture::lent::Lent;
+use refusals::Refusal;
 use regions::paint;
-
-// A refused call: nothing changes, reply 0, count 0.
-fn refused(control: Control, link: Link, number: u8) -> LentOutcome
-    ensures { result ≡ refused_outcome control link number }
-{
-    LentOutcome {
-        control,
-        link,
-        number,
-        reply: 0,
-        count: 0,
-    }
-}
 
 // An accepted call: what it names is painted and counted, and the answer goes back.
 fn show(
@@ -38,24 +28,21 @@ fn show(
     graphic: &[u8; 2048],
     done: Done,
     rest: Rest,
-    frame: &mut [u8],
-    half: &[u8],
-    full: &[u8],
-    phase: bool,
+    frame: &mut [u8; 1024],
+    lent: &Lent,
 ) -> LentOutcome
-    requires { InRange done.control × RegionWithin done.region × (length frame.old ≡ 1024) × (length half.now ≡ 2048) }
-    ensures { left result (memories text.now glyph.now graphic.now) frame.new ≡ accepted (seen half.now full.now phase) frame.old (acted (memories text.now glyph.now graphic.now) done) rest }
+    requires { InRange done.control × RegionWithin done.region × (length lent.now.half.now ≡ 2048) }
+    ensures { left_accepted result (memories text.now glyph.now graphic.now) frame.new ≡ accepted (seen_by lent.now) frame.old (acted (memories text.now glyph.now graphic.now) done) rest }
 {
     let control = done.control;
-    let region = done.region;
-    let look = look(control, phase);
-    let count = paint(text, glyph, graphic, look, region, frame, half, full);
+    let scene = lent.scene(text, glyph, graphic, control);
+    let count = paint(&scene, done.region, frame);
     let replied = links::reply(rest, done.reply);
-    let link = replied.link;
     LentOutcome {
-        control,
-        link,
-        number: 0,
+        kept: Kept {
+            control,
+            link: replied.link,
+        },
         reply: replied.reply,
         count,
     }
@@ -65,13 +52,7 @@ fn show(
 fn timeless(control: Control, event: Event) -> bool
     ensures { result ≡ timeless control event }
 {
-    match event {
-        Event::Transfer(_) => false,
-        Event::Bit(_) => false,
-        Event::SelectLow => false,
-        Event::Reset(_) => false,
-        Event::Pass(_) => !control.time.timed,
-    }
+    matches!(event, Event::Pass(_)) && !control.time.timed
 }
 
 // An event comes to the panel.
@@ -79,33 +60,22 @@ pub fn call(
     text: &mut [u8; 128],
     glyph: &mut [u8; 128],
     graphic: &mut [u8; 2048],
-    control: Control,
-    link: Link,
+    kept: Kept,
     event: Event,
     frame: &mut [u8],
-    half: &[u8],
-    full: &[u8],
-    phase: bool,
-) -> LentOutcome
-    requires { InRange control }
-    ensures frame_after { left result (memories text.new glyph.new graphic.new) frame.new ≡ called (seen half.now full.now phase) (state (memories text.old glyph.old graphic.old) control link) frame.old event }
-    ensures valid { InRange result.control }
+    lent: &Lent,
+) -> Result<LentOutcome, Refusal>
+    requires { InRange kept.control }
+    ensures leaves { left kept result (memories text.new glyph.new graphic.new) frame.new ≡ called (seen_by lent.now) (kept_state (memories text.old glyph.old graphic.old) kept) frame.old event }
+    ensures valid { IfOk result (λ answer. InRange answer.kept.control) }
 {
-    let number = refusal(frame.len(), half.len(), full.len());
-    if number != 0 {
-        return refused(control, link, number);
-    }
+    lent.check_lengths(frame.len())?;
+    let control = kept.control;
     if timeless(control, event) {
-        return refused(control, link, 8);
+        return Err(Refusal::Kind);
     }
-    let taken = links::take(control.function.dl, link, event);
-    match taken {
-        Taken::OtherLink => refused(control, link, 5),
-        Taken::Carries(carried) => {
-            let deed = carried.deed;
-            let done = perform(text, glyph, graphic, control, deed);
-            let rest = carried.rest;
-            show(text, glyph, graphic, done, rest, frame, half, full, phase)
-        }
-    }
+    let carried = links::take(control.function.dl, kept.link, event).ok_or(Refusal::OtherLink)?;
+    let done = perform(text, glyph, graphic, control, carried.deed);
+    let frame = frame.as_mut_array::<1024>().unwrap();
+    Ok(show(text, glyph, graphic, done, carried.rest, frame, lent))
 }

@@ -10,67 +10,52 @@ use lib.Dec.{eqb, leb}
 use lib.ListN.{length, get_or}
 use Rattle.base.specs.Choice.{when◌then◌else◌}
 use Rattle.base.proofs.Choice.{either, by_test}
-use Rattle.capture.specs.declared.Answer.{Answer}
-use Rattle.capture.specs.declared.Answer.TheVariants.{Record, Refused, End}
-use Rattle.capture.specs.Kinds.{last_kind, kind_of, allowed}
-use Rattle.capture.specs.Record.{marked, kind_byte, value_byte, read_first, passed, taken_with}
-use Rattle.capture.proofs.Answers.{judged, four_left, four_are_no_end, Numbered, read-numbered}
+use Rattle.std.proofs.Common.{Option, Some, None, Ok, Err}
+use Rattle.refusals.specs.declared.Refusal.{Refusal}
+use Rattle.refusals.specs.declared.Refusal.TheVariants.{Mark, Kind, Value}
+use Rattle.capture.specs.declared.record.Record.{Record}
+use Rattle.capture.specs.Kinds.{last_kind, kind_of, kind_number, allowed}
+use Rattle.capture.specs.Record.{Answer, marked, kind_byte, value_byte, record_of, read_first, taken_with}
+use Rattle.capture.proofs.ByKind.{number_again}
+use Rattle.capture.proofs.Answers.{judged, four_left, four_are_no_end}
 
 pub taken-with-time : (a : Answer) → taken_with true a ≡ a
-taken-with-time (Record kind value) = refl
-taken-with-time (Refused n) = refl
-taken-with-time End = refl
+taken-with-time (Ok (Some r)) = refl
+taken-with-time (Ok None) = refl
+taken-with-time (Err refusal) = refl
 
-refused_no_record : {n kind value : ℕ} → Refused n ≡ Record kind value → ⊥
-refused_no_record h = omega (arith, ap passed h)
-
-refused_no_end : {n : ℕ} → Refused n ≡ End → ⊥
-refused_no_end h = let z : ◌≡◌ {A = ℕ} 0 1 = cc in omega arith
+refused_no_answer : {refusal : Refusal} {r : Option Record} → Err refusal ≡ Ok r → ⊥
+refused_no_answer h = let z : ◌≡◌ {A = ℕ} 0 1 = cc in omega arith
 
 module _ (time : Bool) where
-  -- a record that is taken was that record
-  pub taken_record : (a : Answer) {kind value : ℕ} → taken_with time a ≡ Record kind value → a ≡ Record kind value
-  taken_record (Record k v) {kind} {value} h =
-      either (λ (a : Answer). a ≡ Record kind value → Record k v ≡ Record kind value) (not time && eqb k 7) (λ r. absurd (refused_no_record r)) (λ r. r) h
-  taken_record (Refused n) h = h
-  taken_record End h = h
+  -- a record that is taken was that record, and the end is the end
+  pub taken_record : (a : Answer) {r : Option Record} → taken_with time a ≡ Ok r → a ≡ Ok r
+  taken_record (Ok (Some q)) {r} h =
+      either (λ (a : Answer). a ≡ Ok r → ◌≡◌ {A = Answer} (Ok (Some q)) (Ok r)) (not time && eqb (kind_number q.kind) 7) (λ e. absurd (refused_no_answer e)) (λ e. e) h
+  taken_record (Ok None) h = h
+  taken_record (Err refusal) h = h
 
-  -- and the end is the end
-  pub taken-end : (a : Answer) → taken_with time a ≡ End → a ≡ End
-  taken-end (Record k v) h =
-      either (λ (a : Answer). a ≡ End → Record k v ≡ End) (not time && eqb k 7) (λ r. absurd (refused_no_end r)) (λ r. r) h
-  taken-end (Refused n) h = h
-  taken-end End h = h
-
-  pub four_taken_no_end : (a b d e : ℕ) (c : List ℕ) → taken_with time (read_first (a ∷ b ∷ d ∷ e ∷ c)) ≡ End → ⊥
-  four_taken_no_end a b d e c h = four_are_no_end a b d e c (taken-end (read_first (a ∷ b ∷ d ∷ e ∷ c)) h)
-
-  still_numbered : (a : Answer) → Numbered a → Numbered (taken_with time a)
-  still_numbered (Record k v) h = either Numbered (not time && eqb k 7) refl tt
-  still_numbered (Refused n) h = h
-  still_numbered End h = tt
-
-  pub taken-numbered : (c : List ℕ) → Numbered (taken_with time (read_first c))
-  taken-numbered c = still_numbered (read_first c) (read-numbered c)
+  pub four_taken_no_end : (a b d e : ℕ) (c : List ℕ) → taken_with time (read_first (a ∷ b ∷ d ∷ e ∷ c)) ≡ Ok None → ⊥
+  four_taken_no_end a b d e c h = four_are_no_end a b d e c (taken_record (read_first (a ∷ b ∷ d ∷ e ∷ c)) h)
 
 -- the tests of four bytes, by a panel with or without time: 8 is given above its last kind, and before 9
 abbrev pub judged_with : Bool → ℕ → ℕ → ℕ → ℕ → Answer
 judged_with time first second kind value =
-    when not (marked first second) then Refused 7
-    else when not (leb kind (last_kind time)) then Refused 8
-    else when not (allowed (kind_of kind) value) then Refused 9
-    else Record kind value
+    when not (marked first second) then Err Mark
+    else when not (leb kind (last_kind time)) then Err Kind
+    else when not (allowed (kind_of kind) value) then Err Value
+    else Ok (Some (record_of kind value))
 
 below_seven :
     (t : Bool) (kind value : ℕ)
     → kind < 7
-    → taken_with false (when not t then Refused 9 else Record kind value) ≡ (when not t then Refused 9 else Record kind value)
+    → taken_with false (when not t then Err Value else Ok (Some (record_of kind value))) ≡ (when not t then Err Value else Ok (Some (record_of kind value)))
 below_seven false kind value h = refl
-below_seven true kind value h = rw (ne_eqb kind 7 (λ e. omega arith))
+below_seven true kind value h = rw (number_again kind (omega arith), ne_eqb kind 7 (λ e. omega arith))
 
 -- 7 takes every value
 seven_itself :
-    (kind value : ℕ) → kind ≡ 7 → taken_with false (when not (allowed (kind_of kind) value) then Refused 9 else Record kind value) ≡ Refused 8
+    (kind value : ℕ) → kind ≡ 7 → taken_with false (when not (allowed (kind_of kind) value) then Err Value else Ok (Some (record_of kind value))) ≡ Err Kind
 unfolding kind_of
 seven_itself kind value h = rw h
 

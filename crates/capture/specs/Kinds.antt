@@ -1,19 +1,14 @@
 -- Document 01, "Captures", and requests K1 and K3: the kinds of records. What holds of a kind is a table with a clause for each.
-use Rattle.std.specs.Prelude.{ℕ, Bool, true, false, List, [], ◌∷◌, eqb, leb, get_or}
-
-pub data Kind : Type 0 where
-  instruction_write : Kind
-  data_write : Kind
-  status_read : Kind
-  data_read : Kind
-  eight_bits : Kind
-  chip_select_low : Kind
-  reset : Kind
-  time_passes : Kind
+use Rattle.std.specs.Prelude.{ℕ, Bool, true, false, List, [], ◌∷◌, eqb, leb, get_or, Result, Ok, Err}
+use Rattle.base.specs.Choice.{when◌then◌else◌}
+use Rattle.refusals.specs.declared.Refusal.{Refusal}
+use Rattle.refusals.specs.declared.Refusal.TheVariants as refusal
+use Rattle.capture.specs.declared.kind.Kind.{Kind}
+use Rattle.capture.specs.declared.kind.Kind.TheVariants.{InstructionWrite, DataWrite, StatusRead, DataRead, EightBits, ChipSelectLow, Reset, TimePasses}
 
 -- in the order of their numbers, from 0 on; the last says that value times 8 microseconds passed
 abbrev pub kinds : List Kind
-kinds = instruction_write ∷ data_write ∷ status_read ∷ data_read ∷ eight_bits ∷ chip_select_low ∷ reset ∷ time_passes ∷ []
+kinds = InstructionWrite ∷ DataWrite ∷ StatusRead ∷ DataRead ∷ EightBits ∷ ChipSelectLow ∷ Reset ∷ TimePasses ∷ []
 
 -- with time, kinds go to 7, without to 6
 abbrev pub last_kind : Bool → ℕ
@@ -26,26 +21,41 @@ known number = leb number (last_kind true)
 
 -- the kind with a number (one that is not known is refused before)
 unfoldable pub kind_of : ℕ → Kind
-kind_of number = get_or kinds number time_passes
+kind_of number = get_or kinds number TimePasses
+
+-- a number as a kind
+abbrev pub kind_numbered : ℕ → Result Kind Refusal
+kind_numbered number = when known number then Ok (kind_of number) else Err refusal.Kind
+
+-- the number of a kind
+abbrev pub kind_number : Kind → ℕ
+kind_number InstructionWrite = 0
+kind_number DataWrite = 1
+kind_number StatusRead = 2
+kind_number DataRead = 3
+kind_number EightBits = 4
+kind_number ChipSelectLow = 5
+kind_number Reset = 6
+kind_number TimePasses = 7
 
 -- refusal 9: kinds 2, 3, 5 need value 0; 6 needs 0 to 3
 abbrev pub allowed : Kind → ℕ → Bool
-allowed instruction_write value = true
-allowed data_write value = true
-allowed status_read value = eqb value 0
-allowed data_read value = eqb value 0
-allowed eight_bits value = true
-allowed chip_select_low value = eqb value 0
-allowed reset value = leb value 3
-allowed time_passes value = true
+allowed InstructionWrite value = true
+allowed DataWrite value = true
+allowed StatusRead value = eqb value 0
+allowed DataRead value = eqb value 0
+allowed EightBits value = true
+allowed ChipSelectLow value = eqb value 0
+allowed Reset value = leb value 3
+allowed TimePasses value = true
 
 -- whether a reply is shown for it
 abbrev pub reads : Kind → Bool
-reads instruction_write = false
-reads data_write = false
-reads status_read = true
-reads data_read = true
-reads eight_bits = false
-reads chip_select_low = false
-reads reset = false
-reads time_passes = false
+reads InstructionWrite = false
+reads DataWrite = false
+reads StatusRead = true
+reads DataRead = true
+reads EightBits = false
+reads ChipSelectLow = false
+reads Reset = false
+reads TimePasses = false

@@ -1,5 +1,6 @@
 -- Over each way a list of items acts as its deeds do, one after the other: of a write's half bytes or bits exactly the last acts. So two
 -- lists that are alike agree over any two ways.
+use Rattle.std.proofs.Common.{Option, Some, None}
 use Prim.Native.Nat.{ℕ, zero, suc}
 use mathlib.Core.Path.{◌≡◌, refl, sym, ap, ◌∙◌, subst}
 use mathlib.Core.Bool.{Bool, true, false}
@@ -18,7 +19,7 @@ use Rattle.serial.specs.declared.Sync.TheVariants.{Body}
 use Rattle.serial.specs.declared.Receiver.{Receiver}
 use Rattle.serial.specs.declared.Receiver.TheVariants.{Outside}
 use Rattle.serial.specs.declared.Received.{Received}
-use Rattle.serial.specs.declared.Received.TheVariants.{Nothing, Byte}
+use Rattle.serial.specs.Serial.{byte_to}
 use Rattle.links.specs.declared.Carried.{Carried}
 use Rattle.links.specs.Halves.{writing, acts}
 use Rattle.connector.specs.Listened.{Listened, listened}
@@ -51,7 +52,7 @@ module _ {S : Type 0} (on : Controller S) where
   transfer_first s pairing t dl c rest d e = rw (d, e)
 
   -- all that some bits brought acts, in order
-  abbrev all_carried : S → List Received → S
+  abbrev all_carried : S → List (Option Received) → S
   all_carried s [] = s
   all_carried s (x ∷ xs) = all_carried (on.perform s (deed_of x)).state xs
 
@@ -66,9 +67,9 @@ module _ {S : Type 0} (on : Controller S) where
 
   module _ (idles : Idles on) where
     -- bits that bring nothing, then a byte
-    quiet : (n : ℕ) (s : S) (xs : List Received) → all_carried s (replicate n Nothing ++ xs) ≡ all_carried s xs
+    quiet : (n : ℕ) (s : S) (xs : List (Option Received)) → all_carried s (replicate n None ++ xs) ≡ all_carried s xs
     quiet zero s xs = refl
-    quiet (suc n) s xs = ap (λ (a : Performed S). all_carried a.state (replicate n Nothing ++ xs)) (idles s) ∙ quiet n s xs
+    quiet (suc n) s xs = ap (λ (a : Performed S). all_carried a.state (replicate n None ++ xs)) (idles s) ∙ quiet n s xs
 
     -- a write's second half leaves nothing open
     write_closes : (s : S) (register : Bool) (byte : ℕ) →
@@ -98,7 +99,7 @@ module _ {S : Type 0} (on : Controller S) where
         (runs on (record { state = all_carried s l.brought; link = Serial l.receiver }) rest))
         (last-bit-acts sync w.register w.byte w.small)
         ∙ ap (λ (t : S). preceded (write_deeds serial w) (runs on (record { state = t; link = Serial (Outside 0 (Body w.register 0 0)) }) rest))
-        (quiet 23 s (Byte w.register w.byte ∷ []))
+        (quiet 23 s (Some (byte_to w.register w.byte) ∷ []))
 
   -- what a list keeps it goes on keeping
   keeps_on : (way : Way) (s : S) (item : Item) (items : List Item) → KeepsDl on way s (item ∷ items) →

@@ -1,5 +1,6 @@
 -- In sixteen bits at most one byte completes: each bit brings the receiver at most one nearer to a byte, and after a byte
 -- sixteen are needed again.
+use Rattle.std.proofs.Common.{Option, Some, None}
 use Prim.Native.Nat.{ℕ, suc, ◌+◌, ◌-◌, ◌≤◌, ◌<◌}
 use mathlib.Core.Path.{◌≡◌, refl}
 use mathlib.Core.Bool.{Bool, true, false}
@@ -15,8 +16,7 @@ use Rattle.serial.specs.declared.Sync.TheVariants.{Lost, Body}
 use Rattle.serial.specs.declared.Receiver.{Receiver}
 use Rattle.serial.specs.declared.Receiver.TheVariants.{Inside, Outside}
 use Rattle.serial.specs.declared.Received.{Received}
-use Rattle.serial.specs.declared.Received.TheVariants.{Nothing, Byte}
-use Rattle.serial.specs.Serial.{counted, after_header, header_bit, data_next, pushed, body_bit, completed, heard}
+use Rattle.serial.specs.Serial.{byte_to, counted, after_header, header_bit, data_next, pushed, body_bit, completed, heard}
 use Rattle.connector.specs.Listened.{listened, bytes_in}
 use Rattle.connector.specs.Statements.{AtMostOneByte}
 
@@ -30,9 +30,9 @@ near (Inside header) = 16
 near (Outside run sync) = left sync
 
 -- what a bit does to that number
-Falls : ℕ → Receiver → Received → Type 0
-Falls n next Nothing = n ≤ suc (near next)
-Falls n next (Byte register byte) = (n ≤ 1) × (near next ≡ 16)
+Falls : ℕ → Receiver → Option Received → Type 0
+Falls n next None = n ≤ suc (near next)
+Falls n next (Some received) = (n ≤ 1) × (near next ≡ 16)
 
 left-most : (sync : Sync) → left sync ≤ 16
 left-most Lost = omega arith
@@ -69,7 +69,7 @@ zero-falls (Body register seen byte) = go (data_next seen) (ltb seen 15) refl
         else when l then Body register (seen + 1) byte
         else Body register 0 0
         ))
-        (when d then Nothing else when l then Nothing else Byte register byte)
+        (when d then None else when l then None else Some (byte_to register byte))
     go true l e = omega arith
     go false true e = omega arith
     go false false e = (omega (arith, ltb-false seen 15 e), refl)
@@ -85,7 +85,7 @@ falls (Outside run sync) true = omega (arith, one-falls sync, counted-near run t
 falls (Outside run sync) false = zero-falls sync
 
 -- what a bit brings, then what the rest brings
-abbrev bytes-from : Received → Receiver → List Bool → ℕ
+abbrev bytes-from : Option Received → Receiver → List Bool → ℕ
 bytes-from x r bits = bytes_in (x ∷ (listened r bits).brought)
 
 none_soon : (bits : List Bool) (r : Receiver) → length bits < near r → bytes_in (listened r bits).brought ≡ 0
@@ -93,10 +93,10 @@ unfolding Falls listened bytes_in
 none_soon [] r h = refl
 none_soon (b ∷ bits) r h = go (heard r b).received (heard r b).receiver (falls r b) (none_soon bits (heard r b).receiver)
   where
-    go : (x : Received) (next : Receiver) → Falls (near r) next x →
+    go : (x : Option Received) (next : Receiver) → Falls (near r) next x →
         (length bits < near next → bytes_in (listened next bits).brought ≡ 0) → bytes-from x next bits ≡ 0
-    go Nothing next f rest = rest (omega arith)
-    go (Byte register byte) next f rest = absurd (omega arith)
+    go None next f rest = rest (omega arith)
+    go (Some received) next f rest = absurd (omega arith)
 
 pub at-most-one-byte : AtMostOneByte
 unfolding Falls listened bytes_in
@@ -104,7 +104,7 @@ at-most-one-byte r [] h = omega arith
 at-most-one-byte r (b ∷ bits) h =
     go (heard r b).received (heard r b).receiver (falls r b) (at-most-one-byte (heard r b).receiver bits (omega arith))
   where
-    go : (x : Received) (next : Receiver) → Falls (near r) next x → bytes_in (listened next bits).brought ≤ 1 →
+    go : (x : Option Received) (next : Receiver) → Falls (near r) next x → bytes_in (listened next bits).brought ≤ 1 →
         bytes-from x next bits ≤ 1
-    go Nothing next f rest = rest
-    go (Byte register byte) next f rest = omega (arith, none_soon bits next (omega arith))
+    go None next f rest = rest
+    go (Some received) next f rest = omega (arith, none_soon bits next (omega arith))

@@ -1,4 +1,5 @@
 -- The 24 bits of one write complete its byte on the last: by a table of the sixteen half bytes, for each half.
+use Rattle.std.proofs.Common.{Option, Some, None}
 use Prim.Native.Nat.{ℕ, ◌+◌, ◌*◌, ◌≤◌, ◌<◌}
 use mathlib.Core.Path.{◌≡◌, refl, ap, ◌∙◌}
 use mathlib.Core.Bool.{Bool, true, false}
@@ -13,15 +14,14 @@ use Rattle.serial.specs.declared.Sync.TheVariants.{Body}
 use Rattle.serial.specs.declared.Receiver.{Receiver}
 use Rattle.serial.specs.declared.Receiver.TheVariants.{Outside}
 use Rattle.serial.specs.declared.Received.{Received}
-use Rattle.serial.specs.declared.Received.TheVariants.{Nothing, Byte}
-use Rattle.serial.specs.Serial.{counted, after_header, header_bit, pushed, body_bit, completed, heard}
+use Rattle.serial.specs.Serial.{byte_to, counted, after_header, header_bit, pushed, body_bit, completed, heard}
 use Rattle.connector.specs.Listened.{Listened, listened}
 use Rattle.sender.specs.Sender.{header_byte, highest_first}
 use Rattle.connector.specs.Items.{bits_of}
 use Rattle.connector.specs.Statements.{LastBitActs}
 
 -- what came before, with what came then
-abbrev and_then : List Received → Listened → Listened
+abbrev and_then : List (Option Received) → Listened → Listened
 and_then before l = record { receiver = l.receiver; brought = before ++ l.brought }
 
 -- some bits, then some more
@@ -38,7 +38,7 @@ taken_in byte half = pushed (pushed (pushed (pushed byte (bit 3 half)) (bit 2 ha
 Upper : Bool → ℕ → Type 0
 Upper register half =
     listened (Outside 0 (Body register 0 0)) (highest_first (raised half))
-    ≡ record { receiver = Outside 0 (Body register 8 half); brought = replicate 8 Nothing }
+    ≡ record { receiver = Outside 0 (Body register 8 half); brought = replicate 8 None }
 
 -- the upper half, after no bit
 upper_heard : (register : Bool) (half : ℕ) → half < 16 → Upper register half
@@ -52,7 +52,7 @@ Lower register byte half =
     listened (Outside 0 (Body register 8 byte)) (highest_first (raised half))
     ≡ record {
       receiver = Outside 0 (Body register 0 0);
-      brought = replicate 7 Nothing ++ (Byte register (taken_in byte half) ∷ []);
+      brought = replicate 7 None ++ (Some (byte_to register (taken_in byte half)) ∷ []);
     }
 
 -- the lower half, after eight
@@ -92,7 +92,7 @@ taken_in-joins byte half h k =
 -- the header begins a body, whatever was half received
 header-heard : (sync : Sync) (register : Bool) →
     listened (Outside 0 sync) (highest_first (header_byte register))
-    ≡ record { receiver = Outside 0 (Body register 0 0); brought = replicate 8 Nothing }
+    ≡ record { receiver = Outside 0 (Body register 0 0); brought = replicate 8 None }
 unfolding heard counted after_header header_bit body_bit completed listened
 header-heard sync false = refl
 header-heard sync true = refl
@@ -115,5 +115,5 @@ last-bit-acts sync register byte h =
     (lower_heard register (bits7_4 byte) (bits3_0 byte) (omega arith)))
     ∙ ap (λ (b : ℕ). record {
       receiver = Outside 0 (Body register 0 0);
-      brought = replicate 23 Nothing ++ (Byte register b ∷ []);
+      brought = replicate 23 None ++ (Some (byte_to register b) ∷ []);
     }) (taken_in-joins (bits7_4 byte) (bits3_0 byte) (omega arith) (omega arith) ∙ omega arith)

@@ -1,13 +1,11 @@
 -- Document 01, "Links": a controller at the end of its link. What a deed does to it is a parameter.
-use Rattle.std.specs.Prelude.{ℕ, ◌≡◌, Bool, true, false, List, [], ◌∷◌, ◌++◌}
+use Rattle.std.specs.Prelude.{ℕ, ◌≡◌, Bool, true, false, List, [], ◌∷◌, ◌++◌, None, Option, Some}
 use Rattle.events.specs.declared.Event.{Event}
 use Rattle.events.specs.declared.Deed.{Deed}
 use Rattle.events.specs.declared.Deed.TheVariants.{Nothing, Whole}
 use Rattle.links.specs.declared.Link.{Link}
 use Rattle.serial.specs.declared.Sync.{Sync}
 use Rattle.links.specs.declared.Carried.{Carried}
-use Rattle.links.specs.declared.Taken.{Taken}
-use Rattle.links.specs.declared.Taken.TheVariants.{OtherLink, Carries}
 use Rattle.links.specs.Halves.{writing}
 use Rattle.links.specs.Taken.{taken_by, replied}
 use Rattle.connector.specs.Items.{Item, deed, Way, whole_bytes, halves, serial, resting}
@@ -71,9 +69,9 @@ module _ {S : Type 0} (on : Controller S) where
   abbrev pub carried_at : S → Carried → Came S
   carried_at s c = goes_back c (on.perform s c.deed)
 
-  abbrev pub taken_at : S → Taken → Comes (Came S)
-  taken_at s OtherLink = elsewhere
-  taken_at s (Carries c) = comes (carried_at s c)
+  abbrev pub taken_at : S → Option Carried → Comes (Came S)
+  taken_at s None = elsewhere
+  taken_at s (Some c) = comes (carried_at s c)
 
   -- one event
   unfoldable pub event_at : Connected S → Event → Comes (Came S)

@@ -1,5 +1,5 @@
 -- Document 01, "Links": lists of whole writes, and what stands on the wires for them.
-use Rattle.std.specs.Prelude.{ℕ, ◌+◌, ◌≤◌, ◌<◌, ◌≡◌, Bool, true, false, List, [], ◌∷◌, ◌++◌, map, replicate}
+use Rattle.std.specs.Prelude.{ℕ, ◌+◌, ◌≤◌, ◌<◌, ◌≡◌, Bool, true, false, List, [], ◌∷◌, ◌++◌, map, replicate, Some}
 use Rattle.base.specs.Bits.{bits7_4, bits3_0, raised}
 use Rattle.events.specs.declared.Event.{Event}
 use Rattle.events.specs.declared.Event.TheVariants.{Transfer, Bit}
@@ -11,7 +11,6 @@ use Rattle.links.specs.declared.Pairing.TheVariants.{Empty}
 use Rattle.serial.specs.declared.Sync.{Sync}
 use Rattle.serial.specs.declared.Sync.TheVariants.{Body}
 use Rattle.serial.specs.declared.Receiver.TheVariants.{Outside}
-use Rattle.links.specs.declared.Taken.TheVariants.{Carries}
 use Rattle.links.specs.Halves.{writing}
 use Rattle.links.specs.Idle.{idle}
 use Rattle.sender.specs.Sender.{three_bytes, highest_first}
@@ -27,7 +26,7 @@ pub record WholeWrite : Type 0 where
 pub record Beside : Type 0 where
   pub event : Event
   pub deed : Deed
-  pub alike : (dl : Bool) (link : Link) → taken_by dl link event ≡ Carries (stays deed link)
+  pub alike : (dl : Bool) (link : Link) → taken_by dl link event ≡ Some (stays deed link)
 
 -- whole writes, with any events beside the wires between them
 pub data Item : Type 0 where

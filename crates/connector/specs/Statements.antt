@@ -2,7 +2,7 @@
 -- Each is proved in proofs/, under its own name in small letters (`ItemsAct` as `items-act`). A controller is
 -- anything that `Controller` describes: its state may hold a frame, counts or time, and no statement looks into it. The panel is one
 -- (crate `demands`, `board`).
-use Rattle.std.specs.Prelude.{ℕ, ◌≤◌, ◌<◌, ◌≡◌, Bool, true, false, List, [], ◌∷◌, ◌++◌, length, replicate}
+use Rattle.std.specs.Prelude.{ℕ, ◌≤◌, ◌<◌, ◌≡◌, Bool, true, false, List, [], ◌∷◌, ◌++◌, length, replicate, Some, None}
 use Rattle.base.specs.Bits.{bits7_4, bits3_0}
 use Rattle.links.specs.declared.Pairing.TheVariants.{Empty, Upper}
 use Rattle.events.specs.declared.Deed.TheVariants.{Whole}
@@ -11,13 +11,13 @@ use Rattle.serial.specs.declared.Sync.{Sync}
 use Rattle.serial.specs.declared.Sync.TheVariants.{Body}
 use Rattle.serial.specs.declared.Receiver.{Receiver}
 use Rattle.serial.specs.declared.Receiver.TheVariants.{Outside}
-use Rattle.serial.specs.declared.Received.TheVariants.{Nothing, Byte}
 use Rattle.links.specs.Halves.{joined, writing, reading, kept, acts, paired}
 use Rattle.connector.specs.Listened.{listened, bytes_in}
 use Rattle.sender.specs.Sender.{three_bytes}
 use Rattle.links.specs.Taken.{by_width, transfer_taken}
 use Rattle.connector.specs.Items.{Beside, Item, Way, above, bits_of, wires, wire_deeds, sync_after, SameButBit4, Alike}
 use Rattle.connector.specs.Connector.{Controller, Came, comes, rests, carried_at, taken_at, runs, act, does, KeepsDl, Idles}
+use Rattle.serial.specs.Serial.{byte_to}
 
 module _ {S : Type 0} (on : Controller S) where
   -- 1. Any number of such writes, heard bit by bit on a serial link with nothing half received and chip select high, act exactly as the
@@ -82,4 +82,4 @@ abbrev pub LastBitActs : Type 0
 LastBitActs =
     (sync : Sync) (register : Bool) (byte : ℕ) → byte < 256 →
     listened (Outside 0 sync) (bits_of (three_bytes register byte))
-    ≡ record { receiver = Outside 0 (Body register 0 0); brought = replicate 23 Nothing ++ (Byte register byte ∷ []) }
+    ≡ record { receiver = Outside 0 (Body register 0 0); brought = replicate 23 None ++ (Some (byte_to register byte) ∷ []) }

@@ -1,9 +1,8 @@
 -- Document 01, "Instructions": where data transfers go, and how place and view move on.
-use Rattle.std.specs.Prelude.{ℕ, ◌+◌, ◌%◌, Bool, true, false, not, ◌&&◌, get_or, set}
+use Rattle.std.specs.Prelude.{ℕ, ◌+◌, ◌%◌, Bool, true, false, not, ◌&&◌, get_or, set, None}
 use Rattle.base.specs.Choice.{when◌then◌else◌}
 use Rattle.table.specs.declared.Target.{Target}
 use Rattle.table.specs.declared.Target.TheVariants.{Text, Glyph, Graphic}
-use Rattle.controller.specs.declared.Waiting.TheVariants.{Nothing}
 use Rattle.controller.specs.declared.Place.{Place}
 use Rattle.controller.specs.declared.Control.{Control}
 use Rattle.controller.specs.Memories.{Memories, memories, word_place, graphic_place}
@@ -45,7 +44,7 @@ moved id p =
       row = p.row;
       low = not p.low;
       dummy = p.dummy;
-      waiting = Nothing;
+      waiting = None;
     }
 
 -- a text word completes with this half
@@ -72,6 +71,6 @@ dummy_read c =
       row = c.place.row;
       low = c.place.low;
       dummy = false;
-      waiting = Nothing;
+      waiting = None;
     })
     c

@@ -1,5 +1,5 @@
 -- Document 01, "Instructions": what each entry of the table does to the controls, and to text memory.
-use Rattle.std.specs.Prelude.{ℕ, ◌+◌, ◌%◌, Bool, true, false, not, List, get_or, set, replicate}
+use Rattle.std.specs.Prelude.{ℕ, ◌+◌, ◌%◌, Bool, true, false, not, List, get_or, set, replicate, None, Option, Some}
 use Rattle.base.specs.Choice.{when◌then◌else◌}
 use Rattle.base.specs.Bits.{bits5_0, bits3_0, bits1_0}
 use Rattle.events.specs.declared.Numbering.{Numbering}
@@ -10,8 +10,6 @@ use Rattle.table.specs.declared.Touch.{Touch}
 use Rattle.table.specs.declared.Touch.TheVariants as touch
 use Rattle.table.specs.declared.Instruction.{Instruction}
 use Rattle.table.specs.declared.Instruction.TheVariants.{Ignored, Clear, Home, EntryMode, Display, MoveCursor, MoveDisplay, FunctionSet, GlyphAddress, TextAddress, Standby, SetSr, ToggleReverse, Scroll, GraphicAddress}
-use Rattle.controller.specs.declared.Waiting.{Waiting}
-use Rattle.controller.specs.declared.Waiting.TheVariants.{Nothing, Row}
 use Rattle.controller.specs.declared.Place.{Place}
 use Rattle.controller.specs.declared.Entry.{Entry}
 use Rattle.controller.specs.declared.Shown.{Shown}
@@ -47,20 +45,20 @@ with_time t c = record { place = c.place; entry = c.entry; shown = c.shown; func
 
 -- an address set, clear, home or a cursor move: the high half next, and a dummy read due
 abbrev pub pointed : Target → ℕ → ℕ → Place
-pointed target counter row = record { target = target; counter = counter; row = row; low = false; dummy = true; waiting = Nothing }
+pointed target counter row = record { target = target; counter = counter; row = row; low = false; dummy = true; waiting = None }
 
 -- the place with another waiting row, or none
-abbrev pub with_waiting : Waiting → Place → Place
+abbrev pub with_waiting : Option ℕ → Place → Place
 with_waiting w p = record { target = p.target; counter = p.counter; row = p.row; low = p.low; dummy = p.dummy; waiting = w }
 
 -- every executed instruction drops a waiting row, unless it is its column, and ends standby, unless it is standby
 abbrev pub begun : Control → Control
-begun c = with_standby false (with_place (with_waiting Nothing c.place) c)
+begun c = with_standby false (with_place (with_waiting None c.place) c)
 
 -- a graphic address: first the row, which waits; then the column, and only then do target, row and column change
-abbrev pub graphic_addressed : Waiting → Place → ℕ → Place
-graphic_addressed Nothing p a = with_waiting (Row (bits5_0 a)) p
-graphic_addressed (Row y) p a = pointed Graphic (bits3_0 a) y
+abbrev pub graphic_addressed : Option ℕ → Place → ℕ → Place
+graphic_addressed None p a = with_waiting (Some (bits5_0 a)) p
+graphic_addressed (Some y) p a = pointed Graphic (bits3_0 a) y
 
 -- the counter one to the right or to the left, modulo 64
 abbrev pub stepped : Bool → ℕ → ℕ

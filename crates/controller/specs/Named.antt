@@ -1,17 +1,13 @@
 -- Document 01, "Bytes named for repaint": which region each transfer names, and which bytes a region has.
-use Rattle.std.specs.Prelude.{ℕ, ◌+◌, ◌*◌, ◌/◌, ◌%◌, Bool, true, false, not, ◌&&◌, ◌||◌, List, eqb}
+use Rattle.std.specs.Prelude.{ℕ, ◌+◌, ◌*◌, ◌/◌, ◌%◌, Bool, true, false, not, ◌&&◌, ◌||◌, List, eqb, None, Option, Some}
 use Rattle.base.specs.Choice.{when◌then◌else◌}
 use Rattle.table.specs.declared.Target.{Target}
 use Rattle.table.specs.declared.Target.TheVariants.{Text, Glyph, Graphic}
 use Rattle.table.specs.declared.Touch.{Touch}
 use Rattle.table.specs.declared.Touch.TheVariants as touch
-use Rattle.controller.specs.declared.Waiting.{Waiting}
-use Rattle.controller.specs.declared.Waiting.TheVariants.{Row}
 use Rattle.controller.specs.declared.Place.{Place}
 use Rattle.controller.specs.declared.View.{View}
 use Rattle.controller.specs.declared.Control.{Control}
-use Rattle.controller.specs.declared.Cell.{Cell}
-use Rattle.controller.specs.declared.Cell.TheVariants.{Nowhere, Word}
 use Rattle.controller.specs.declared.Region.{Region}
 use Rattle.controller.specs.declared.Region.TheVariants.{Nothing, Whole, Cells, GlyphHalf, GraphicHalf}
 use Rattle.controller.specs.Memories.{half}
@@ -22,22 +18,22 @@ use Rattle.controller.specs.Glass.{shown_row, shown_word, word_image, is_image}
 unfoldable pub in_cell : View → ℕ → ℕ → ℕ → Bool
 in_cell v word row column = eqb (shown_row v row / 16) (word / 16) && eqb ((column / 2 + v.shift) % 16) (word % 16)
 
-abbrev pub in_some_cell : View → Cell → ℕ → ℕ → Bool
-in_some_cell v Nowhere row column = false
-in_some_cell v (Word word) row column = in_cell v word row column
+abbrev pub in_some_cell : View → Option ℕ → ℕ → ℕ → Bool
+in_some_cell v None row column = false
+in_some_cell v (Some word) row column = in_cell v word row column
 
 -- the counter's cell, where target is text
-abbrev pub counter_cell : Place → Cell
-counter_cell p = when is_text p.target then Word p.counter else Nowhere
+abbrev pub counter_cell : Place → Option ℕ
+counter_cell p = when is_text p.target then Some p.counter else None
 
 -- the counter's cell before and after, each where target is text
 abbrev pub both_cells : Place → Place → Region
 both_cells before after = Cells (counter_cell before) (counter_cell after)
 
 -- address sets and cursor moves: both cells; a row alone, which waits then: none
-abbrev pub address_names : Waiting → Place → Place → Region
-address_names Waiting.Nothing before after = both_cells before after
-address_names (Row y) before after = Nothing
+abbrev pub address_names : Option ℕ → Place → Place → Region
+address_names None before after = both_cells before after
+address_names (Some y) before after = Nothing
 
 abbrev pub touch_names : Touch → Place → Place → Region
 touch_names touch.Nothing before after = Nothing
@@ -52,7 +48,7 @@ instruction_names before after t =
 
 -- the word's cell and, if the counter steps, the new word's cell
 abbrev pub text_names : Place → Place → Region
-text_names before after = Cells (Word before.counter) (when before.low then Word after.counter else Nowhere)
+text_names before after = Cells (Some before.counter) (when before.low then Some after.counter else None)
 
 -- text write: cells; glyph write: each byte showing that half of that image row; graphic write: its byte
 abbrev pub write_by_target : Target → Place → Place → Region

@@ -1,5 +1,5 @@
 -- Document 01, "Memories and flags", and requests K1 and K3: everything but the memories and the link. What it is when fresh, and the ranges it keeps to.
-use Rattle.std.specs.Prelude.{ℕ, ◌<◌, ◌≤◌, Bool, true, false, ◌≡◌, length, replicate}
+use Rattle.std.specs.Prelude.{ℕ, ◌<◌, ◌≤◌, Bool, true, false, ◌≡◌, length, replicate, None, Option, Some}
 use Prim.{Unit}
 use Rattle.base.specs.Choice.{when◌then◌else◌}
 use Rattle.events.specs.declared.Made.{Made}
@@ -8,8 +8,6 @@ use Rattle.events.specs.declared.Numbering.{Numbering}
 use Rattle.events.specs.declared.Numbering.TheVariants.{By96, By160}
 use Rattle.table.specs.declared.Target.{Target}
 use Rattle.table.specs.declared.Target.TheVariants.{Text, Glyph, Graphic}
-use Rattle.controller.specs.declared.Waiting.{Waiting}
-use Rattle.controller.specs.declared.Waiting.TheVariants.{Nothing, Row}
 use Rattle.controller.specs.declared.Place.{Place}
 use Rattle.controller.specs.declared.View.{View}
 use Rattle.controller.specs.declared.Control.{Control}
@@ -17,7 +15,7 @@ use Rattle.controller.specs.Memories.{Memories}
 
 -- target text, counter 0, high half next; no row waiting, no dummy read due
 abbrev pub fresh_place : Place
-fresh_place = record { target = Text; counter = 0; row = 0; low = false; dummy = false; waiting = Nothing }
+fresh_place = record { target = Text; counter = 0; row = 0; low = false; dummy = false; waiting = None }
 
 -- scroll 0, shift 0, no line reversed; the numbering as it is made
 abbrev pub fresh_view : Numbering → View
@@ -51,9 +49,9 @@ limit Text = 64
 limit Glyph = 64
 limit Graphic = 16
 
-abbrev pub RowInRange : Waiting → Type 0
-RowInRange Nothing = Unit {0}
-RowInRange (Row y) = y < 64
+abbrev pub RowInRange : Option ℕ → Type 0
+RowInRange None = Unit {0}
+RowInRange (Some y) = y < 64
 
 -- the most microseconds that remain: those of a clear, or none where there is no time
 abbrev pub longest : Bool → ℕ

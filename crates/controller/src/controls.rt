@@ -3,11 +3,11 @@ ghost use Rattle.std.specs.Prelude.{◌≡◌, ◌<◌};
 ghost use Rattle.controller.specs.State.{numbering_of, fresh_control, remade};
 ghost use Rattle.controller.specs.Instructions.{with_time, stepped, display_moved, modes};
 
-use crate::{Control, Entry, Function, Place, Shown, Time, View, Waiting};
+use crate::{Control, Entry, Function, Place, Shown, Time, View};
 use events::{Made, Numbering, Pin};
 use table::{Modes, Target};
 
-// The numbering that a bit chooses.
+// The numbering that a bit chooses. By this name and not as `From<bool>`, which would not say what the bit is.
 pub fn numbering(bit: bool) -> Numbering
     ensures { result ≡ numbering_of bit }
 {
@@ -34,13 +34,11 @@ impl View {
         requires { self.shift < 16 }
         ensures { result ≡ display_moved right self }
     {
-        let mut next = self;
-        if right {
-            next.shift = (self.shift + 15) % 16;
-            return next;
+        let step = if right { 15 } else { 1 };
+        View {
+            shift: (self.shift + step) % 16,
+            ..self
         }
-        next.shift = (self.shift + 1) % 16;
-        next
     }
 }
 
@@ -50,7 +48,6 @@ impl Control {
     pub fn fresh(made: Made) -> Control
         ensures { result ≡ fresh_control made }
     {
-        let numbering = made.numbering;
         Control {
             place: Place {
                 target: Target::Text,
@@ -58,7 +55,7 @@ impl Control {
                 row: 0,
                 low: false,
                 dummy: false,
-                waiting: Waiting::Nothing,
+                waiting: None,
             },
             entry: Entry { id: true, s: false },
             shown: Shown {
@@ -76,7 +73,7 @@ impl Control {
                 scroll: 0,
                 shift: 0,
                 reversed: [false; 4],
-                numbering,
+                numbering: made.numbering,
             },
             standby: false,
             time: Time {
@@ -90,11 +87,10 @@ impl Control {
     pub fn remade(self, pin: Pin) -> Made
         ensures { result ≡ remade self pin }
     {
-        let numbering = pin.numbering;
         Made {
             parallel: pin.parallel,
             time: self.time.timed,
-            numbering,
+            numbering: pin.numbering,
         }
     }
 
@@ -102,20 +98,16 @@ impl Control {
     pub fn modes(self) -> Modes
         ensures { result ≡ modes self }
     {
-        let place = self.place;
-        let target = place.target;
         Modes {
             re: self.function.re,
             sr: self.sr,
-            target,
+            target: self.place.target,
         }
     }
 
     pub fn with_time(self, time: Time) -> Control
         ensures { result ≡ with_time time self }
     {
-        let mut next = self;
-        next.time = time;
-        next
+        Control { time, ..self }
     }
 }

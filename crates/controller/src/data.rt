@@ -6,7 +6,7 @@ ghost use Rattle.controller.specs.Data.{stored, found, next_counter, counter_aft
 
 use crate::controls::stepped;
 use crate::places::{graphic_place, word_place};
-use crate::{Control, Place, Waiting};
+use crate::{Control, Place};
 use table::Target;
 
 // The byte goes into the next half of the target's memory.
@@ -22,20 +22,10 @@ pub fn store(
     ensures { memories text.new glyph.new graphic.new ≡ stored control.place.target control.place byte (memories text.old glyph.old graphic.old) }
 {
     let place = control.place;
-    let target = place.target;
-    match target {
-        Target::Text => {
-            let at = word_place(place.counter, place.low);
-            text[at] = byte;
-        }
-        Target::Glyph => {
-            let at = word_place(place.counter, place.low);
-            glyph[at] = byte;
-        }
-        Target::Graphic => {
-            let at = graphic_place(place.row, place.counter, place.low);
-            graphic[at] = byte;
-        }
+    match place.target {
+        Target::Text => text[word_place(place.counter, place.low)] = byte,
+        Target::Glyph => glyph[word_place(place.counter, place.low)] = byte,
+        Target::Graphic => graphic[graphic_place(place.row, place.counter, place.low)] = byte,
     }
 }
 
@@ -46,20 +36,10 @@ pub fn find(text: &[u8; 128], glyph: &[u8; 128], graphic: &[u8; 2048], control: 
     ensures { result ≡ found control.place.target control.place (memories text.now glyph.now graphic.now) }
 {
     let place = control.place;
-    let target = place.target;
-    match target {
-        Target::Text => {
-            let at = word_place(place.counter, place.low);
-            text[at]
-        }
-        Target::Glyph => {
-            let at = word_place(place.counter, place.low);
-            glyph[at]
-        }
-        Target::Graphic => {
-            let at = graphic_place(place.row, place.counter, place.low);
-            graphic[at]
-        }
+    match place.target {
+        Target::Text => text[word_place(place.counter, place.low)],
+        Target::Glyph => glyph[word_place(place.counter, place.low)],
+        Target::Graphic => graphic[graphic_place(place.row, place.counter, place.low)],
     }
 }
 
@@ -69,8 +49,7 @@ fn next_counter(target: Target, id: bool, counter: u8) -> u8
     ensures { result ≡ next_counter target id counter }
 {
     match target {
-        Target::Text => stepped(id, counter),
-        Target::Glyph => stepped(id, counter),
+        Target::Text | Target::Glyph => stepped(id, counter),
         Target::Graphic => stepped(true, counter) % 16,
     }
 }
@@ -81,9 +60,8 @@ impl Place {
         requires { self.counter < limit self.target }
         ensures { result ≡ counter_after id self }
     {
-        let target = self.target;
         if self.low {
-            return next_counter(target, id, self.counter);
+            return next_counter(self.target, id, self.counter);
         }
         self.counter
     }
@@ -94,16 +72,11 @@ impl Place {
         requires { self.counter < limit self.target }
         ensures { result ≡ moved id self }
     {
-        let target = self.target;
-        let counter = self.counter_after(id);
-        let waiting = Waiting::Nothing;
         Place {
-            target,
-            counter,
-            row: self.row,
+            counter: self.counter_after(id),
             low: !self.low,
-            dummy: self.dummy,
-            waiting,
+            waiting: None,
+            ..self
         }
     }
 
@@ -111,12 +84,7 @@ impl Place {
     pub(crate) fn completes(self) -> bool
         ensures { result ≡ completes self }
     {
-        let target = self.target;
-        match target {
-            Target::Text => self.low,
-            Target::Glyph => false,
-            Target::Graphic => false,
-        }
+        self.target == Target::Text && self.low
     }
 }
 
@@ -125,11 +93,7 @@ impl Control {
     pub(crate) fn shifts(self) -> bool
         ensures { result ≡ shifts self }
     {
-        let place = self.place;
-        if place.completes() {
-            return self.entry.s;
-        }
-        false
+        self.place.completes() && self.entry.s
     }
 
     // The controls after a half has been written or read.
@@ -138,14 +102,11 @@ impl Control {
         requires { InRange self }
         ensures { result ≡ moved_on self }
     {
-        let place = self.place;
-        let view = self.view;
         let id = self.entry.id;
-        let moved = place.moved(id);
         let mut next = self;
-        next.place = moved;
+        next.place = self.place.moved(id);
         if self.shifts() {
-            next.view = view.display_moved(!id);
+            next.view = self.view.display_moved(!id);
         }
         next
     }
@@ -154,18 +115,11 @@ impl Control {
     pub fn dummy_read(self) -> Control
         ensures { result ≡ dummy_read self }
     {
-        let place = self.place;
-        let target = place.target;
-        let read = Place {
-            target,
-            counter: place.counter,
-            row: place.row,
-            low: place.low,
+        let place = Place {
             dummy: false,
-            waiting: Waiting::Nothing,
+            waiting: None,
+            ..self.place
         };
-        let mut next = self;
-        next.place = read;
-        next
+        Control { place, ..self }
     }
 }

@@ -11,13 +11,6 @@ pub mod data;
 pub mod named;
 pub mod places;
 
-// A graphic row that waits for its column.
-#[derive(Clone, Copy)]
-pub enum Waiting {
-    Nothing,
-    Row(u8),
-}
-
 // Where the next data transfer goes.
 #[derive(Clone, Copy)]
 pub struct Place {
@@ -28,7 +21,8 @@ pub struct Place {
     pub low: bool,
     // Whether a dummy read is due.
     pub dummy: bool,
-    pub waiting: Waiting,
+    // A graphic row that waits for its column.
+    pub waiting: Option<u8>,
 }
 
 // I/D and S.
@@ -70,6 +64,8 @@ pub struct Time {
     pub remaining: u16,
 }
 
+// All but the memories. That its numbers lie in their ranges is no invariant of the type but asked for where it matters: drawing and
+// `state_bytes` take any controls, as a caller may make them of any numbers.
 #[derive(Clone, Copy)]
 pub struct Control {
     pub place: Place,
@@ -82,26 +78,12 @@ pub struct Control {
     pub time: Time,
 }
 
-// What a text word shows of glyph memory: an image, or none.
-#[derive(Clone, Copy)]
-pub enum Image {
-    Nothing,
-    Number(u8),
-}
-
-// A text word's cell, or none: the counter has one only where the target is text.
-#[derive(Clone, Copy)]
-pub enum Cell {
-    Nowhere,
-    Word(u8),
-}
-
-// Which bytes of the glass a transfer names.
+// Which bytes of the glass a transfer names; a cell by its text word. One that names none is a region like any other.
 #[derive(Clone, Copy)]
 pub enum Region {
     Nothing,
     Whole,
-    Cells(Cell, Cell),
+    Cells(Option<u8>, Option<u8>),
     GlyphHalf { word: u8, low: bool },
     GraphicHalf { row: u8, column: u8, low: bool },
 }

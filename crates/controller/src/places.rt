@@ -6,7 +6,7 @@ ghost use Rattle.controller.specs.Memories.{half, word_place, graphic_place};
 pub fn half(low: bool) -> usize
     ensures { result ≡ half low }
 {
-    if low { 1 } else { 0 }
+    usize::from(low)
 }
 
 // A half of a word of text or glyph memory.
@@ -15,7 +15,7 @@ pub fn word_place(word: u8, low: bool) -> usize
     ensures value { result ≡ word_place word low }
     ensures inside { result < 128 }
 {
-    ((word as usize) << 1) + half(low)
+    (usize::from(word) << 1) + half(low)
 }
 
 // The column of a half of one of a row's sixteen words.
@@ -24,7 +24,7 @@ pub fn byte_column(word: u32, low: bool) -> u32
     ensures value { result ≡ 2 * word + half low }
     ensures inside { result < 32 }
 {
-    if low { (word << 1) + 1 } else { word << 1 }
+    (word << 1) + u32::from(low)
 }
 
 // A byte of graphic memory or of the frame: each of their rows has 32.
@@ -41,5 +41,5 @@ pub(crate) fn graphic_place(row: u8, column: u8, low: bool) -> usize
     ensures value { result ≡ graphic_place row column low }
     ensures inside { result < 2048 }
 {
-    row_place(row as u32, byte_column(column as u32, low))
+    row_place(u32::from(row), byte_column(u32::from(column), low))
 }

@@ -1,4 +1,5 @@
 -- Fresh is valid, and every transfer keeps the ranges and the memories' sizes: place and view are looked at apart.
+use Rattle.std.proofs.Common.{None, Option, Some}
 use Prim.Native.Nat.{ℕ, ◌<◌, ◌≤◌}
 use mathlib.Core.Bool.{Bool, true, false, not, ◌&&◌}
 use mathlib.Core.Path.{◌≡◌, refl, sym, subst}
@@ -22,8 +23,6 @@ use Rattle.events.specs.declared.Transfer.TheVariants.{Instruct, Write, Status, 
 use Rattle.events.specs.declared.Made.{Made}
 use Rattle.events.specs.declared.Deed.{Deed}
 use Rattle.events.specs.declared.Deed.TheVariants as deed
-use Rattle.controller.specs.declared.Waiting.{Waiting}
-use Rattle.controller.specs.declared.Waiting.TheVariants as waiting
 use Rattle.controller.specs.declared.Place.{Place}
 use Rattle.controller.specs.declared.Entry.{Entry}
 use Rattle.controller.specs.declared.View.{View}
@@ -91,15 +90,15 @@ fresh-valid made = record { control = fresh_in_range made; text = refl; glyph = 
 pointed_in : (t : Target) (k y : ℕ) → k < limit t → y < 64 → PlaceIn (pointed t k y)
 pointed_in t k y h g = record { counter = h; row = g; waiting = tt }
 
-dropped_in : (p : Place) → PlaceIn p → PlaceIn (with_waiting waiting.Nothing p)
+dropped_in : (p : Place) → PlaceIn p → PlaceIn (with_waiting None p)
 dropped_in p r = record { counter = r.counter; row = r.row; waiting = tt }
 
 stepped_64 : (right : Bool) (k : ℕ) → stepped right k < 64
 stepped_64 right k = either (λ (n : ℕ). n < 64) right (omega arith) (omega arith)
 
-addressed_in : (w : Waiting) (p : Place) (a : ℕ) → RowInRange w → PlaceIn p → PlaceIn (graphic_addressed w p a)
-addressed_in waiting.Nothing p a h r = record { counter = r.counter; row = r.row; waiting = omega arith }
-addressed_in (waiting.Row y) p a h r = pointed_in Graphic _ y (omega arith) h
+addressed_in : (w : Option ℕ) (p : Place) (a : ℕ) → RowInRange w → PlaceIn p → PlaceIn (graphic_addressed w p a)
+addressed_in None p a h r = record { counter = r.counter; row = r.row; waiting = omega arith }
+addressed_in (Some y) p a h r = pointed_in Graphic _ y (omega arith) h
 
 shifted_in : (right : Bool) (v : View) → ViewIn v → ViewIn (display_moved right v)
 shifted_in right v r =
@@ -124,7 +123,7 @@ module _ (c : Control) (r : InRange c) where
   Keeps i = InRange (obeyed c i)
 
   -- an entry that leaves place and view, but for a waiting row
-  drops : {d : Control} → d.place ≡ with_waiting waiting.Nothing c.place → d.view ≡ c.view → d.time ≡ c.time → InRange d
+  drops : {d : Control} → d.place ≡ with_waiting None c.place → d.view ≡ c.view → d.time ≡ c.time → InRange d
   drops {d} p v t =
       in_range d (subst PlaceIn (sym p) (dropped_in _ (place_in c r))) (subst ViewIn (sym v) (view_in c r)) (subst TimeIn (sym t) r.remaining)
 

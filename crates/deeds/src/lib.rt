@@ -1,4 +1,5 @@
-// What reaches the controller is done here, and nowhere else: each transfer whole, reset, and time that passes, on lent memories.
+// What reaches the controller is done here, and nowhere else: each transfer whole, reset, and time that passes, on lent memories. They are
+// three parameters, as crate `calls` says.
 #![tactic(auto)]
 
 ghost use Rattle.std.specs.Prelude.{◌≡◌, List, ℕ};

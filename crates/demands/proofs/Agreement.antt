@@ -1,4 +1,6 @@
 -- The panel is a controller at the end of its link: a call is a step of the links' connector. So the links' theorems hold of its calls.
+use Rattle.std.proofs.Common.{None, Option, Some}
+use Rattle.links.specs.declared.Carried.{Carried}
 use Prim.Native.Nat.{ℕ, zero, suc, ◌-◌}
 use mathlib.Core.Bool.{true, false}
 use mathlib.Core.List.{List, [], ◌∷◌, ◌++◌, map}
@@ -15,8 +17,6 @@ use Rattle.events.specs.declared.Deed.{Deed}
 use Rattle.events.specs.declared.Deed.TheVariants as deeds
 use Rattle.links.specs.declared.Link.{Link}
 use Rattle.serial.specs.declared.Sync.TheVariants.{Lost}
-use Rattle.links.specs.declared.Taken.{Taken}
-use Rattle.links.specs.declared.Taken.TheVariants.{OtherLink, Carries}
 use Rattle.connector.specs.Items.{WholeWrite, Item, write, beside_wires, deed, Way, whole_bytes, halves, serial, bits_of, wires, write_deeds, wire_deeds, idle_on, resting}
 use Rattle.connector.specs.Connector.{Performed, CameAll, Comes, elsewhere, comes, next, preceded, carried_at, taken_at, event_at, runs, Idles}
 use Rattle.connector.proofs.ItemsAct.{items-act, lists_agree}
@@ -68,9 +68,9 @@ module _ (e : Seen) where
   unfolding event_at
   call_is_connected b l event h w = rw (admitted-timely e (on_link b l) b.frame event h w) (by (taken_on (on_link b l) event))
     where
-      by : (t : Taken) → DoesBy (unless_other e (on_link b l) b.frame t) (on_link b l) b.frame (taken_at (board e) b t)
-      by OtherLink = refl
-      by (Carries c) = record { state = refl; frame = refl; number = refl; reply = refl }
+      by : (t : Option Carried) → DoesBy (unless_other e (on_link b l) b.frame t) (on_link b l) b.frame (taken_at (board e) b t)
+      by None = refl
+      by (Some c) = record { state = refl; frame = refl; number = refl; reply = refl }
 
   -- what the connector reaches, the calls reach
   runs_tell : (events : List Event) (b : Board) (l : Link) (x : CameAll Board) → Fits e b.frame → AllTimely b.control events →
@@ -85,12 +85,12 @@ module _ (e : Seen) where
       by :
           ((to : Board) (at : Link) (y : CameAll Board) → Fits e to.frame → AllTimely to.control events → runs (board e) (record { state = to; link = at }) events ≡ comes y →
           Tells e to at events y)
-          → (t : Taken)
+          → (t : Option Carried)
           → called e (on_link b l) b.frame event ≡ unless_other e (on_link b l) b.frame t
           → next (taken_at (board e) b t) (λ o. preceded (o.deed ∷ []) (runs (board e) o.at events)) ≡ comes x
           → Tells e b l (event ∷ events) x
-      by on OtherLink k is = absurd (let z : ◌≡◌ {A = ℕ} 0 1 = cc in omega arith)
-      by on (Carries c) k is =
+      by on None k is = absurd (let z : ◌≡◌ {A = ℕ} 0 1 = cc in omega arith)
+      by on (Some c) k is =
           let to = (carried_at (board e) b c).at in
           let more = goes_on c.deed (runs (board e) to events) x is in
           let rest = on to.state to.link more.0 (repainted-fits e _ _ _ b.frame h)

@@ -1,4 +1,6 @@
 -- With S = 0 a data transfer names at most 64 bytes, on any link: a glyph write at most 32, a graphic write at most 1.
+use Rattle.std.proofs.Common.{None, Option, Some}
+use Rattle.links.specs.declared.Carried.{Carried}
 use Prim.Native.Nat.{ℕ, ◌≤◌}
 use mathlib.Core.Bool.{Bool, true, false, ◌&&◌, and-false, true≢false}
 use mathlib.Core.List.{List}
@@ -24,8 +26,6 @@ use Rattle.deeds.specs.Transfers.{Acted, written, read_out, carried_out, on_time
 use Rattle.events.specs.declared.Event.{Event}
 use Rattle.events.specs.declared.Transfer.{Transfer}
 use Rattle.events.specs.declared.Transfer.TheVariants.{Instruct, Write, Status, Read}
-use Rattle.links.specs.declared.Taken.{Taken}
-use Rattle.links.specs.declared.Taken.TheVariants.{OtherLink, Carries}
 use Rattle.picture.specs.Picture.{Seen, wide}
 use Rattle.picture.specs.Refusals.{refusal_of}
 use Rattle.repaint.specs.Repaint.{named, count_named}
@@ -102,9 +102,9 @@ on_time-count m c t n h = either (λ (a : Acted). count_of a ≤ n) (lost c t) (
 
 -- a bound on what reaches the controller is a bound on the call, whatever link it comes over
 module _ (e : Seen) (s : State) (frame : List ℕ) (event : Event) (n : ℕ) where
-  reached_count : (t : Taken) → count_of (performed s.memories s.control (reaching t)) ≤ n → (unless_other e s frame t).count ≤ n
-  reached_count OtherLink h = omega arith
-  reached_count (Carries c) h = h
+  reached_count : (t : Option Carried) → count_of (performed s.memories s.control (reaching t)) ≤ n → (unless_other e s frame t).count ≤ n
+  reached_count None h = omega arith
+  reached_count (Some c) h = h
 
   bounded-count : count_of (performed s.memories s.control (reaching (taken_on s event))) ≤ n → (called e s frame event).count ≤ n
   unfolding called

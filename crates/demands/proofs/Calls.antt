@@ -1,4 +1,6 @@
 -- A call's number is the table's.
+use Rattle.std.proofs.Common.{None, Option, Some}
+use Rattle.links.specs.declared.Carried.{Carried}
 use Prim.Native.Nat.{ℕ}
 use mathlib.Core.Bool.{Bool, true, false}
 use mathlib.Core.List.{List}
@@ -13,20 +15,18 @@ use Rattle.events.specs.declared.Event.{Event}
 use Rattle.events.specs.declared.Event.TheVariants.{Transfer, Bit, SelectLow, Reset, Pass}
 use Rattle.links.specs.declared.Link.{Link}
 use Rattle.links.specs.declared.Link.TheVariants.{Parallel, Serial}
-use Rattle.links.specs.declared.Taken.{Taken}
-use Rattle.links.specs.declared.Taken.TheVariants.{OtherLink, Carries}
 use Rattle.links.specs.Taken.{taken_by}
 use Rattle.picture.specs.Picture.{Seen}
 use Rattle.picture.specs.Refusals.{refusal_of, drawn}
 use Rattle.calls.specs.State.{State}
 use Rattle.calls.specs.Calls.{unless_other, taken_on, timeless, called}
-use Rattle.calls.proofs.Kept.{called_unmoved}
+use Rattle.calls.proofs.StaysInRange.{called_unmoved}
 use Rattle.demands.specs.Demand1.{TableSays, of_other_link, CallRefuses, DrawRefuses}
 use Rattle.demands.proofs.Tables.{or_wants, table-says}
 
-abbrev is_other : Taken → Bool
-is_other OtherLink = true
-is_other (Carries c) = false
+abbrev is_other : Option Carried → Bool
+is_other None = true
+is_other (Some c) = false
 
 other-taken : (dl : Bool) (l : Link) (call : Event) → is_other (taken_by dl l call) ≡ of_other_link l call
 unfolding taken_by
@@ -39,9 +39,9 @@ other-taken dl (Serial receiver) SelectLow = refl
 other-taken dl l (Reset pin) = refl
 other-taken dl l (Pass eights) = refl
 
-other-number : (e : Seen) (s : State) (frame : List ℕ) (t : Taken) → (unless_other e s frame t).number ≡ (when is_other t then 5 else 0)
-other-number e s frame OtherLink = refl
-other-number e s frame (Carries c) = refl
+other-number : (e : Seen) (s : State) (frame : List ℕ) (t : Option Carried) → (unless_other e s frame t).number ≡ (when is_other t then 5 else 0)
+other-number e s frame None = refl
+other-number e s frame (Some c) = refl
 
 module _ (e : Seen) (s : State) (frame : List ℕ) (call : Event) where
   pub call-number :

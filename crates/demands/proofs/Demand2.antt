@@ -18,7 +18,7 @@ use Rattle.links.specs.Taken.{taken_by}
 use Rattle.picture.specs.Picture.{Seen}
 use Rattle.repaint.specs.Repaint.{repainted, count_named, named}
 use Rattle.calls.specs.State.{State, state}
-use Rattle.calls.proofs.Kept.{admitted, reset-fresh}
+use Rattle.calls.proofs.StaysInRange.{admitted, reset-fresh}
 use Rattle.sender.specs.Sender.{sent}
 use Rattle.picture.proofs.Accepted.{draws}
 use Rattle.calls.specs.Calls.{unless_other}

@@ -1,4 +1,6 @@
 -- Demand 3, from the laws of one call: what it names becomes the picture's, and what it does not name keeps its byte in frame and picture.
+use Rattle.std.proofs.Common.{None, Option, Some}
+use Rattle.links.specs.declared.Carried.{Carried}
 use Prim.Native.Nat.{ℕ, ◌<◌, ◌/◌, ◌%◌}
 use mathlib.Core.Bool.{Bool, false}
 use mathlib.Core.List.{List, [], ◌∷◌}
@@ -14,15 +16,13 @@ use Rattle.base.proofs.Tests.{or_neither}
 use Rattle.controller.specs.Named.{covers}
 use Rattle.deeds.specs.Transfers.{performed}
 use Rattle.events.specs.declared.Event.{Event}
-use Rattle.links.specs.declared.Taken.{Taken}
-use Rattle.links.specs.declared.Taken.TheVariants.{OtherLink, Carries}
 use Rattle.picture.specs.Picture.{Seen, look_of, wide}
 use Rattle.picture.proofs.Wide.{picture-at}
 use Rattle.picture.proofs.Accepted as sizes
 use Rattle.repaint.specs.Repaint.{named, repainted, count_named}
 use Rattle.calls.specs.State.{State, Valid}
 use Rattle.calls.specs.Calls.{Called, unless_other, taken_on, reaching, timeless, Fits, called, after_calls}
-use Rattle.calls.proofs.Kept.{fresh-state-valid, called-valid, admitted, still_fits}
+use Rattle.calls.proofs.StaysInRange.{fresh-state-valid, called-valid, admitted, still_fits}
 use Rattle.demands.proofs.Repainted.{performed_unnamed}
 use Rattle.demands.proofs.Bounded.{at_most_64, glyph_at_most_32, graphic_at_most_1}
 use Rattle.demands.proofs.Timely.{timeless_names}
@@ -33,13 +33,13 @@ picture-stands : PictureStands
 picture-stands e s calls v = after-shows e s (picture_of e s) calls v refl
 
 -- by what the link makes of a call
-abbrev named_taken : State → Taken → ℕ → Bool
+abbrev named_taken : State → Option Carried → ℕ → Bool
 named_taken s t = named_acted (performed s.memories s.control (reaching t))
 
-taken-counts : (e : Seen) (s : State) (frame : List ℕ) (t : Taken) → (unless_other e s frame t).count ≡ count 1024 (named_taken s t)
+taken-counts : (e : Seen) (s : State) (frame : List ℕ) (t : Option Carried) → (unless_other e s frame t).count ≡ count 1024 (named_taken s t)
 unfolding count_named performed named covers
-taken-counts e s frame OtherLink = sym (count_none 1024 _ (λ i h. refl))
-taken-counts e s frame (Carries c) = refl
+taken-counts e s frame None = sym (count_none 1024 _ (λ i h. refl))
+taken-counts e s frame (Some c) = refl
 
 count-is-number : CountIsNumber
 count-is-number e s frame call fits =
@@ -50,27 +50,27 @@ count-is-number e s frame call fits =
 
 -- what one call leaves of the byte at a place of the frame
 taken-shows :
-    (e : Seen) (s : State) (frame : List ℕ) (t : Taken) (i : ℕ)
+    (e : Seen) (s : State) (frame : List ℕ) (t : Option Carried) (i : ℕ)
     → length frame ≡ 1024
     → i < 1024
     → get_or (unless_other e s frame t).frame i 0
     ≡ (when named_taken s t i then get_or (picture_of e (unless_other e s frame t).state) i 0 else get_or frame i 0)
 unfolding repainted performed named covers
-taken-shows e s frame OtherLink i l h = refl
-taken-shows e s frame (Carries c) i l h =
+taken-shows e s frame None i l h = refl
+taken-shows e s frame (Some c) i l h =
     let a = performed s.memories s.control c.deed in
     rw (picture-at wide e.fonts a.memories (look_of e.phase a.done.control) i h) (painted-at _ _ frame i (rw l h))
 
 -- and of the picture's byte there, where it is not named
 taken-keeps :
-    (e : Seen) (s : State) (frame : List ℕ) (t : Taken) (i : ℕ)
+    (e : Seen) (s : State) (frame : List ℕ) (t : Option Carried) (i : ℕ)
     → Valid s
     → i < 1024
     → named_taken s t i ≡ false
     → get_or (picture_of e (unless_other e s frame t).state) i 0 ≡ get_or (picture_of e s) i 0
 unfolding named
-taken-keeps e s frame OtherLink i v h u = refl
-taken-keeps e s frame (Carries c) i v h u =
+taken-keeps e s frame None i v h u = refl
+taken-keeps e s frame (Some c) i v h u =
     let a = performed s.memories s.control c.deed in
     picture-at wide e.fonts a.memories (look_of e.phase a.done.control) i h
     ∙ performed_unnamed e s.memories s.control v.control c.deed (i / 32) (i % 32) (omega arith) u

@@ -1,4 +1,5 @@
 -- A transfer that a call brings is lost or carried out: by the busy test, where it acts.
+use Rattle.std.proofs.Common.{None, Option, Some}
 use Prim.{Unit}
 use Prim.Native.Nat.{ℕ, ◌+◌, ◌*◌, ◌-◌, ◌<◌}
 use mathlib.Core.Bool.{Bool, true, false, not, ◌&&◌, true≢false}
@@ -33,14 +34,12 @@ use Rattle.links.specs.declared.Pairing.{Pairing}
 use Rattle.links.specs.declared.Rest.{Rest}
 use Rattle.links.specs.declared.Rest.TheVariants.{Stays}
 use Rattle.links.specs.declared.Carried.{Carried}
-use Rattle.links.specs.declared.Taken.{Taken}
-use Rattle.links.specs.declared.Taken.TheVariants.{OtherLink, Carries}
 use Rattle.links.specs.Halves.{paired}
 use Rattle.links.specs.Taken.{by_width, taken_by, replied}
 use Rattle.picture.specs.Picture.{Seen}
 use Rattle.calls.specs.State.{State, state, fresh_state}
 use Rattle.calls.specs.Calls.{Called, refused, accepted, unless_other, taken_on, reaching, Fits, called}
-use Rattle.calls.proofs.Kept.{admitted, called_timed}
+use Rattle.calls.proofs.StaysInRange.{admitted, called_timed}
 use Rattle.demands.specs.Lost.{LostWhenBusy, Costs, Brings, LostLeavesAll, QuietCallsCostNothing, apart_from_time, CarriedOutUnlessLost, StatusShowsBusy, PassFalls, TimeIsKept, FreshIsNotBusy}
 use Rattle.demands.proofs.Carried.{of-paired}
 use Rattle.demands.proofs.Quiet.{unnamed_accepted}
@@ -97,9 +96,9 @@ brought e s frame call t rest h b =
 abbrev ZeroBack : Carried → Type 0
 ZeroBack x = (t : Transfer) → x.deed ≡ deed.Whole t → (replied x.rest 0).reply ≡ 0
 
-abbrev ZeroTaken : Taken → Type 0
-ZeroTaken OtherLink = Unit {0}
-ZeroTaken (Carries x) = ZeroBack x
+abbrev ZeroTaken : Option Carried → Type 0
+ZeroTaken None = Unit {0}
+ZeroTaken (Some x) = ZeroBack x
 
 paired-zero : (pairing : Pairing) (t : Transfer) → ZeroBack (paired pairing t)
 paired-zero = of-paired ZeroBack (λ register upper t h. refl) (λ u t h. refl) (λ reply t h. absurd (true≢false cc))

@@ -1,4 +1,6 @@
 -- What a cell shows by its code and the font; and that calls look at fonts for the picture alone.
+use Rattle.std.proofs.Common.{None, Option, Some}
+use Rattle.links.specs.declared.Carried.{Carried}
 use Prim.Native.Nat.{ℕ, ◌+◌, ◌*◌, ◌-◌, ◌/◌, ◌%◌, ◌≤◌, ◌<◌}
 use mathlib.Core.Bool.{Bool, true, false, ◌&&◌, ◌||◌}
 use mathlib.Core.List.{List, [], ◌∷◌, map}
@@ -11,7 +13,6 @@ use borrow.Author.Tests.{eqb-true, eqb-false, ltb-true, ltb-false, lt-leb, le-le
 use Rattle.base.specs.Choice.{when◌then◌else◌}
 use Rattle.base.proofs.Choice.{either, either-told, by_test}
 use Rattle.base.proofs.Below.{below, ◌&◌}
-use Rattle.controller.specs.declared.Image as image
 use Rattle.controller.specs.Memories.{half}
 use Rattle.controller.specs.declared.View.{View}
 use Rattle.controller.specs.Glass.{image_of, shown_row, shown_word}
@@ -19,13 +20,10 @@ use Rattle.events.specs.declared.Event.{Event}
 use Rattle.glyph.specs.declared.Content.{Content}
 use Rattle.glyph.specs.Dots.{box_byte, dots_of}
 use Rattle.glyph.specs.Lookup.{full_of, font_of, image_or, content_of}
-use Rattle.links.specs.declared.Taken.{Taken}
-use Rattle.links.specs.declared.Taken.TheVariants.{OtherLink, Carries}
 use Rattle.picture.specs.Picture.{Seen, word_content, cell_byte}
 use Rattle.calls.specs.State.{State}
 use Rattle.calls.specs.Calls.{Fits, unless_other, taken_on, timeless, called}
-use Rattle.calls.proofs.Kept.{admitted, still_fits}
-use Rattle.missing.specs.declared.Lacks.TheVariants.{Nothing}
+use Rattle.calls.proofs.StaysInRange.{admitted, still_fits}
 use Rattle.missing.specs.Missing.{band_row, code_if_missing, missing_at}
 use Rattle.demands.specs.Wires.{answers}
 use Rattle.demands.proofs.Numbered.{by_code, by_number}
@@ -135,15 +133,15 @@ unfolding missing_at word_content content_of font_of full_of image_of code_if_mi
 not_listed_without_number v size text row cell is =
     let high : ℕ = lead_at text v row cell in
     let low : ℕ = trail_at text v row cell in
-    either (λ (x : image.Image). code_if_missing (image_or x (font_of v.numbering high low size)) high low ≡ Nothing) (eqb high 0x00 && leb low 0x0F) refl
-    (either (λ (c : Content). code_if_missing c high low ≡ Nothing) (leb 0xA1 high) (rw is refl) refl)
+    either (λ (x : Option ℕ). code_if_missing (image_or x (font_of v.numbering high low size)) high low ≡ None) (eqb high 0x00 && leb low 0x0F) refl
+    (either (λ (c : Content). code_if_missing c high low ≡ None) (leb 0xA1 high) (rw is refl) refl)
 
 -- seen in the picture alone
 
 module _ (e f : Seen) where
-  taken-same : (s : State) (frame other : List ℕ) (t : Taken) → but_frame (unless_other e s frame t) ≡ but_frame (unless_other f s other t)
-  taken-same s frame other OtherLink = refl
-  taken-same s frame other (Carries x) = refl
+  taken-same : (s : State) (frame other : List ℕ) (t : Option Carried) → but_frame (unless_other e s frame t) ≡ but_frame (unless_other f s other t)
+  taken-same s frame other None = refl
+  taken-same s frame other (Some x) = refl
 
   call_same : (s : State) (frame other : List ℕ) (call : Event) → Fits e frame → Fits f other → but_frame (called e s frame call) ≡ but_frame (called f s other call)
   call_same s frame other call h k =

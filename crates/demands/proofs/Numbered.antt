@@ -1,5 +1,6 @@
 -- The numberings by their laws. Of the numbering itself: every deed but reset does the same whatever it is, and keeps it; what a call answers
 -- and what it names never look at it.
+use Rattle.std.proofs.Common.{None, Option, Some}
 use Prim.{Unit}
 use Prim.Native.Nat.{ℕ, ◌+◌, ◌*◌, ◌/◌, ◌%◌, ◌≤◌, ◌<◌}
 use mathlib.Core.Bool.{Bool, true, false, ◌||◌, true≢false}
@@ -15,8 +16,6 @@ use Rattle.base.proofs.Counting.{count_cong}
 use Rattle.table.specs.declared.Instruction.{Instruction}
 use Rattle.table.specs.Table.{said}
 use Rattle.table.specs.Touches.{touches}
-use Rattle.controller.specs.declared.Cell.{Cell}
-use Rattle.controller.specs.declared.Cell.TheVariants.{Nowhere, Word}
 use Rattle.controller.specs.declared.Control.{Control}
 use Rattle.controller.specs.declared.Region.{Region}
 use Rattle.controller.specs.declared.Region.TheVariants as region
@@ -40,8 +39,6 @@ use Rattle.events.specs.declared.Numbering.{Numbering}
 use Rattle.events.specs.declared.Numbering.TheVariants.{By96, By160}
 use Rattle.events.specs.declared.Transfer.{Transfer}
 use Rattle.events.specs.declared.Transfer.TheVariants.{Instruct, Write, Status, Read}
-use Rattle.numbering.specs.declared.Code.{Code}
-use Rattle.numbering.specs.declared.Code.TheVariants.{Unnumbered, Number}
 use Rattle.glyph.specs.declared.Content.{Content}
 use Rattle.glyph.specs.declared.Content.TheVariants.{Halves}
 use Rattle.numbering.specs.Numbering.{number_of}
@@ -52,11 +49,8 @@ use Rattle.links.specs.declared.Carried.{Carried}
 use Rattle.links.specs.declared.Link.{Link}
 use Rattle.links.specs.declared.Link.TheVariants.{Parallel, Serial}
 use Rattle.links.specs.declared.Rest.{Rest}
-use Rattle.links.specs.declared.Taken.{Taken}
-use Rattle.links.specs.declared.Taken.TheVariants.{OtherLink, Carries}
 use Rattle.links.specs.Taken.{deed_of, by_width, taken_by}
 use Rattle.serial.specs.declared.Received.{Received}
-use Rattle.serial.specs.declared.Received.TheVariants as received
 use Rattle.serial.specs.Serial.{heard}
 use Rattle.picture.specs.Picture.{Seen, wide, word_content, cell_byte}
 use Rattle.picture.proofs.Unread.{half-right}
@@ -64,7 +58,7 @@ use Rattle.picture.specs.Refusals.{refusal_of, lent_refusal}
 use Rattle.repaint.specs.Repaint.{named, count_named}
 use Rattle.calls.specs.State.{State, fresh_state}
 use Rattle.calls.specs.Calls.{Called, accepted, unless_other, taken_on, reaching, timeless, called}
-use Rattle.calls.proofs.Kept.{called-length, reset-fresh}
+use Rattle.calls.proofs.StaysInRange.{called-length, reset-fresh}
 use Rattle.demands.specs.Wires.{answers}
 use Rattle.demands.specs.Numbered.{NoTwoShare, EachIsSomeCodes, NoneBeyond, OthersAsBefore, EndNotAskedFor, ShownByNumber, ChosenWhenMade, ChosenAtReset, is_reset, KeptOtherwise, renumbered, answered, Answered, SeenInPictureAlone, NamesTheSame}
 use Rattle.demands.specs.Demand3.{named_acted}
@@ -97,14 +91,14 @@ unfolding content_of font_of
 others_as_before_lem n high low size h = rw (lt-leb 0xA1 high h)
 
 -- inside a font of 8,352 glyphs, and inside a longer one
-long-enough : (size i : ℕ) → i < 8352 → 267264 ≤ size → full_of (Number i) size ≡ full_of (Number i) 267264
+long-enough : (size i : ℕ) → i < 8352 → 267264 ≤ size → full_of (Some i) size ≡ full_of (Some i) 267264
 unfolding full_of
 long-enough size i h l = rw (le-leb (32 * i + 32) size (omega arith), le-leb (32 * i + 32) 267264 (omega arith))
 
-full-alike : (high low size : ℕ) (c : Code) → low < 256 → 267264 ≤ size → number_of By96 high low ≡ c → full_of c size ≡ full_of c 267264
+full-alike : (high low size : ℕ) (c : Option ℕ) → low < 256 → 267264 ≤ size → number_of By96 high low ≡ c → full_of c size ≡ full_of c 267264
 unfolding full_of
-full-alike high low size Unnumbered h l e = refl
-full-alike high low size (Number i) h l e = long-enough size i (read_back By96 high low i h e).below l
+full-alike high low size None h l e = refl
+full-alike high low size (Some i) h l e = long-enough size i (read_back By96 high low i h e).below l
 
 pub end_not_asked_for_lem : EndNotAskedFor
 unfolding content_of font_of
@@ -116,8 +110,8 @@ pub by_code : (n : Numbering) (high low size : ℕ) → 0xA1 ≤ high → conten
 unfolding content_of font_of image_of
 by_code n high low size lead = rw (ne_eqb high 0x00 (λ z. omega arith), le-leb 0xA1 high lead)
 
-pub by_number : (n : Numbering) (high low size i : ℕ) → number_of n high low ≡ Number i → content_of n high low size ≡ full_of (Number i) size
-by_number n high low size i is = by_code n high low size (numbered-lead n high low i is) ∙ ap (λ (c : Code). full_of c size) is
+pub by_number : (n : Numbering) (high low size i : ℕ) → number_of n high low ≡ Some i → content_of n high low size ≡ full_of (Some i) size
+by_number n high low size i is = by_code n high low size (numbered-lead n high low i is) ∙ ap (λ (c : Option ℕ). full_of c size) is
 
 -- the number's glyph, inside the font
 pub shown-by-number : ShownByNumber
@@ -205,13 +199,13 @@ pass_keeps : (eights : ℕ) → Keeps (deed.Pass eights)
 unfolding performed
 pass_keeps eights m c = refl
 
-received-keeps : (r : Received) → Keeps (deed_of r)
-received-keeps received.Nothing = nothing-keeps
-received-keeps (received.Byte register byte) = whole-keeps _
+received-keeps : (r : Option Received) → Keeps (deed_of r)
+received-keeps None = nothing-keeps
+received-keeps (Some received) = whole-keeps _
 
-abbrev TakenKeeps : Taken → Type 0
-TakenKeeps OtherLink = Unit {0}
-TakenKeeps (Carries x) = Keeps x.deed
+abbrev TakenKeeps : Option Carried → Type 0
+TakenKeeps None = Unit {0}
+TakenKeeps (Some x) = Keeps x.deed
 
 taken-keeps : (dl : Bool) (link : Link) (call : Event) → is_reset call ≡ false → TakenKeeps (taken_by dl link call)
 unfolding taken_by by_width
@@ -234,9 +228,9 @@ kept_otherwise e s frame call h =
     P : Called → Type 0
     P k = k.state.control.view.numbering ≡ s.control.view.numbering
 
-    by : (t : Taken) → TakenKeeps t → P (unless_other e s frame t)
-    by OtherLink k = refl
-    by (Carries x) k = k s.memories s.control
+    by : (t : Option Carried) → TakenKeeps t → P (unless_other e s frame t)
+    by None k = refl
+    by (Some x) k = k s.memories s.control
 
 -- seen in the picture alone
 
@@ -245,10 +239,10 @@ module _ (n : Numbering) (v : View) where
   abbrev turned : View
   turned = with_numbering n v
 
-  cell-alike : (cell : Cell) (row column : ℕ) → in_some_cell v cell row column ≡ in_some_cell turned cell row column
+  cell-alike : (cell : Option ℕ) (row column : ℕ) → in_some_cell v cell row column ≡ in_some_cell turned cell row column
   unfolding in_cell shown_row
-  cell-alike Nowhere row column = refl
-  cell-alike (Word word) row column = refl
+  cell-alike None row column = refl
+  cell-alike (Some word) row column = refl
 
   covers-alike : (text : List ℕ) (r : Region) (row column : ℕ) → covers v text r row column ≡ covers turned text r row column
   unfolding covers shows_glyph shows_graphic shown_row shown_word
@@ -277,9 +271,9 @@ module _ (e : Seen) (n : Numbering) where
   Alike x y = answered n x ≡ answered n y
 
   module _ (s : State) (frame other : List ℕ) where
-    taken-alike : (t : Taken) → answered n (unless_other e s frame t) ≡ answered n (unless_other e (renumbered n s) other t)
-    taken-alike OtherLink = refl
-    taken-alike (Carries x) =
+    taken-alike : (t : Option Carried) → answered n (unless_other e s frame t) ≡ answered n (unless_other e (renumbered n s) other t)
+    taken-alike None = refl
+    taken-alike (Some x) =
         accepted-alike frame other (performed s.memories s.control x.deed) x.rest
         ∙ ap (λ (a : Acted). answered n (accepted e other a x.rest)) (performed-alike n s.memories s.control x.deed)
         ∙ sym (accepted-alike other other (performed s.memories (controls_with n s.control) x.deed) x.rest)

@@ -1,4 +1,5 @@
 -- The readings for every address, call by call: an address set leaves the place that it names, and the rest is computed.
+use Rattle.std.proofs.Common.{None, Option}
 use Prim.Native.Nat.{ℕ, ◌+◌, ◌*◌, ◌%◌, ◌<◌}
 use mathlib.Core.Bool.{Bool, true, false, true≢false}
 use mathlib.Core.List.{List, [], ◌∷◌, ◌++◌}
@@ -15,8 +16,6 @@ use Rattle.controller.specs.declared.Place.{Place}
 use Rattle.controller.specs.declared.Entry.{Entry}
 use Rattle.controller.specs.declared.Shown.{Shown}
 use Rattle.controller.specs.declared.View.{View}
-use Rattle.controller.specs.declared.Waiting.{Waiting}
-use Rattle.controller.specs.declared.Waiting.TheVariants.{Nothing}
 use Rattle.controller.specs.Memories.{Memories}
 use Rattle.controller.specs.Instructions.{pointed, stepped, with_waiting, obeyed}
 use Rattle.controller.specs.Data.{stored, found, moved, moved_on}
@@ -30,7 +29,7 @@ use Rattle.picture.specs.Picture.{Seen}
 use Rattle.calls.specs.State.{State, state}
 use Rattle.calls.specs.Calls.{Fits, called}
 use Rattle.demands.specs.Wires.{answers, replies_of, no_time}
-use Rattle.calls.proofs.Kept.{still_fits}
+use Rattle.calls.proofs.StaysInRange.{still_fits}
 use Rattle.links.specs.Idle.{is_serial}
 use Rattle.demands.specs.Readings.{write_data, read_status, read_data}
 use Rattle.demands.specs.ReadBack.{to_text, to_glyph, to_graphic, there_and_back, both_read, TakesBytes, ReadBack}
@@ -92,7 +91,7 @@ module _ (q : Pairing) (entry : Entry) (shown : Shown) (g : Bool) where
     to-glyph a h calls = rw (glyph_address p.target a h)
 
     to-graphic : (row column : ℕ) → row < 64 → column < 16 → (calls : List Event)
-        → replies (at m (with_waiting Nothing p) true sr v standby) (to_graphic row column ++ calls)
+        → replies (at m (with_waiting None p) true sr v standby) (to_graphic row column ++ calls)
         ≡ 0 ∷ 0 ∷ replies (at m (pointed Graphic column row) true sr v false) calls
     unfolding replies tells taken_by by_width performed on_time carried_out executed obeyed
     to-graphic row column h l calls =
@@ -132,7 +131,7 @@ module _ (q : Pairing) (entry : Entry) (shown : Shown) (g : Bool) where
 
     graphic-back :
         (row column : ℕ) → row < 64 → column < 16 → length m.graphic ≡ 2048
-        → replies (at m (with_waiting Nothing p) true sr v standby) (there_and_back (to_graphic row column) b c)
+        → replies (at m (with_waiting None p) true sr v standby) (there_and_back (to_graphic row column) b c)
         ≡ both_read (to_graphic row column) column ((column + 1) % 16) b c
     unfolding replies tells taken_by by_width performed on_time carried_out written read_out status_read stored found moved moved_on
     graphic-back row column h k long =
@@ -204,13 +203,13 @@ module _ (e : Seen) (s : State) (frame : List ℕ) (b c : ℕ) (takes : TakesByt
       (subst (λ (x : Bool). Replies (to_glyph a) a (stepped entry.id a) (own s.control.place false x q)) (sym sr)
       (glyph-back q entry s.control.shown s.control.function.g s.memories s.control.place s.control.sr s.control.view s.control.standby b c a h takes.valid.glyph)))
 
-  graphic-read : (row column : ℕ) → s.control.function.re ≡ true → s.control.place.waiting ≡ Nothing → row < 64 → column < 16
+  graphic-read : (row column : ℕ) → s.control.function.re ≡ true → s.control.place.waiting ≡ None → row < 64 → column < 16
       → replies_of e s frame (there_and_back (to_graphic row column) b c) ≡ both_read (to_graphic row column) column ((column + 1) % 16) b c
   graphic-read row column re waits h k =
       replies-told e (there_and_back (to_graphic row column) b c) s frame takes.fits
       ∙ as_bytes (Replies (to_graphic row column) column ((column + 1) % 16)) s takes.parallel takes.wide takes.untimed
       (λ q. subst (λ (x : Bool). Replies (to_graphic row column) column ((column + 1) % 16) (own s.control.place x s.control.sr q)) (sym re)
-      (subst (λ (w : Waiting). Replies (to_graphic row column) column ((column + 1) % 16) (own (with_waiting w s.control.place) true s.control.sr q)) (sym waits)
+      (subst (λ (w : Option ℕ). Replies (to_graphic row column) column ((column + 1) % 16) (own (with_waiting w s.control.place) true s.control.sr q)) (sym waits)
       (graphic-back q entry s.control.shown s.control.function.g s.memories s.control.place s.control.sr s.control.view s.control.standby b c row column h k takes.valid.graphic)))
 
 pub read_back : ReadBack

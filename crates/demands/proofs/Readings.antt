@@ -1,4 +1,6 @@
 -- The readings, by computation. What a call reads off does not depend on what the frame holds, so frames are left out of it first.
+use Rattle.std.proofs.Common.{None, Option, Some}
+use Rattle.links.specs.declared.Carried.{Carried}
 use Prim.{Unit, tt}
 use Prim.Native.Nat.{ℕ}
 use mathlib.Core.Bool.{Bool, true, false}
@@ -17,8 +19,6 @@ use Rattle.controller.specs.Glass.{shown_row, shown_word}
 use Rattle.controller.specs.Named.{instruction_names, write_names, read_names, in_cell, covers}
 use Rattle.deeds.specs.Transfers.{executed, written, read_out, status_read, carried_out, on_time, performed}
 use Rattle.events.specs.declared.Event.{Event}
-use Rattle.links.specs.declared.Taken.{Taken}
-use Rattle.links.specs.declared.Taken.TheVariants.{OtherLink, Carries}
 use Rattle.links.specs.Halves as halves
 use Rattle.links.specs.Taken.{by_width, taken_by}
 use Rattle.connector.specs.Items.{bits_of}
@@ -30,7 +30,7 @@ use Rattle.repaint.specs.Repaint.{named, count_named}
 use Rattle.calls.specs.State.{State, fresh_state}
 use Rattle.calls.specs.Calls.{Called, accepted, refused, unless_other, taken_on, timeless, Fits, called, after_calls}
 use Rattle.demands.specs.Wires.{answers}
-use Rattle.calls.proofs.Kept.{admitted, still_fits}
+use Rattle.calls.proofs.StaysInRange.{admitted, still_fits}
 use Rattle.demands.specs.Readings.{Case, cases, timed_cases, turned_cases, numbered_cases, zero_fonts, Observed, observed, AllRead, AllHold, ReadingsHold, TimedReadingsHold, TurnedReadingsHold, NumberedReadingsHold}
 
 -- what a call leaves but the frame
@@ -43,9 +43,9 @@ pub record Told : Type 0 where
 abbrev pub told : Called → Told
 told k = record { state = k.state; number = k.number; reply = k.reply; count = k.count }
 
-abbrev pub told_by : State → Taken → Told
-told_by s OtherLink = record { state = s; number = 5; reply = 0; count = 0 }
-told_by s (Carries c) = told (accepted zero_fonts [] (performed s.memories s.control c.deed) c.rest)
+abbrev pub told_by : State → Option Carried → Told
+told_by s None = record { state = s; number = 5; reply = 0; count = 0 }
+told_by s (Some c) = told (accepted zero_fonts [] (performed s.memories s.control c.deed) c.rest)
 
 unfoldable pub tells : State → Event → Told
 tells s call = when timeless s.control call then record { state = s; number = 8; reply = 0; count = 0 } else told_by s (taken_on s call)
@@ -58,12 +58,12 @@ last_state : State → List Event → State
 last_state s [] = s
 last_state s (call ∷ calls) = last_state (tells s call).state calls
 
-taken-told : (e : Seen) (s : State) (frame : List ℕ) (t : Taken) → told (unless_other e s frame t) ≡ told_by s t
-taken-told e s frame OtherLink = refl
-taken-told e s frame (Carries c) = refl
+taken-told : (e : Seen) (s : State) (frame : List ℕ) (t : Option Carried) → told (unless_other e s frame t) ≡ told_by s t
+taken-told e s frame None = refl
+taken-told e s frame (Some c) = refl
 
 timely-told :
-    (e : Seen) (s : State) (frame : List ℕ) (t : Taken) (w : Bool)
+    (e : Seen) (s : State) (frame : List ℕ) (t : Option Carried) (w : Bool)
     → told (when w then refused s frame 8 else unless_other e s frame t)
     ≡ (when w then record { state = s; number = 8; reply = 0; count = 0 } else told_by s t)
 timely-told e s frame t true = refl

@@ -25,7 +25,7 @@ use Rattle.repaint.specs.Repaint.{named, repainted}
 use Rattle.repaint.proofs.Unnamed.{never-whole, obeyed_unnamed, written_unnamed, read_out_unnamed}
 use Rattle.calls.specs.State.{State, Valid}
 use Rattle.calls.specs.Calls.{Called, called}
-use Rattle.calls.proofs.Kept.{of-call}
+use Rattle.calls.proofs.StaysInRange.{of-call}
 
 -- the bytes that are not named in what a transfer leaves are those of the picture of m and c
 abbrev pub UnnamedKept : Seen → Memories → Control → Acted → Type 0

@@ -1,5 +1,5 @@
 -- A replay is the calls of its accepted records, one after another.
-use Prim.Native.Nat.{ℕ, suc, ◌+◌, ◌-◌, ◌^◌, ◌≤◌, ◌<◌}
+use Prim.Native.Nat.{ℕ, suc, ◌+◌, ◌-◌, ◌^◌, ◌≤◌}
 use mathlib.Core.Bool.{Bool, true, false, not, true≢false}
 use mathlib.Core.List.{List, [], ◌∷◌, ◌++◌, map, flatten}
 use mathlib.Core.Logic.{◌≢◌}
@@ -19,14 +19,16 @@ use Rattle.picture.specs.Picture.{Seen}
 use Rattle.picture.specs.Refusals.{refusal_of}
 use Rattle.calls.specs.State.{State}
 use Rattle.calls.specs.Calls.{Called, timeless, Fits, called, Stands, after_calls}
-use Rattle.calls.proofs.Kept.{still_fits}
+use Rattle.calls.proofs.StaysInRange.{still_fits}
 use Rattle.demands.specs.Wires.{answers, numbers_of}
-use Rattle.printed.specs.Text.{RecordAnswer, line, lines, longest_line, has_room}
+use Rattle.printed.specs.declared.answer.RecordAnswer.{RecordAnswer}
+use Rattle.printed.specs.Text.{line, lines, longest_line, has_room}
 use Rattle.demands.proofs.Sequences.{after_append, numbers_append, zeros_append}
-use Rattle.capture.specs.Kinds.{Kind, last_kind, kind_of}
-use Rattle.capture.specs.Record.{number}
-use Rattle.reader.specs.Capture.{Recorded}
-use Rattle.capture.proofs.ByKind.{by_kind}
+use Rattle.refusals.specs.Numbers.{answer_number}
+use Rattle.capture.specs.declared.kind.Kind.{Kind}
+use Rattle.capture.specs.declared.kind.Kind.TheVariants.{InstructionWrite, DataWrite, StatusRead, DataRead, EightBits, ChipSelectLow, Reset, TimePasses}
+use Rattle.capture.specs.declared.record.Record.{Record}
+use Rattle.capture.specs.Kinds.{last_kind, kind_number}
 use Rattle.records.specs.Records.{asks, called_on, first_number, called_in_turn, record_called}
 use Rattle.playback.specs.Replay.{Replayed, halted, after_answers, Room, endless, bytes, room_for, room_behind, records_replayed, read_by, replayed}
 use Rattle.playback.specs.Transcript.{last_or, transcribed}
@@ -73,7 +75,7 @@ module _ (e : Seen) where
   in_turn_count reply s frame (call ∷ calls) =
       let k = called e s frame call in ap (λ (i : ℕ). k.count + i) (in_turn_count k.reply k.state k.frame calls)
 
-module _ (e : Seen) (r : Recorded) (s : State) (frame : List ℕ) where
+module _ (e : Seen) (r : Record) (s : State) (frame : List ℕ) where
   abbrev carried : Called
   carried = record_called e r.kind r.value s frame
 
@@ -97,15 +99,21 @@ first_timeless : Control → List Event → Bool
 first_timeless c [] = false
 first_timeless c (call ∷ calls) = timeless c call
 
-first-timely : (time : Bool) (c : Control) (r : Recorded) → c.time.timed ≡ time → r.kind ≤ last_kind time → first_timeless c (calls_of r) ≡ false
+first-timely :
+    (time : Bool) (c : Control) (kind : Kind) (value : ℕ)
+    → c.time.timed ≡ time
+    → kind_number kind ≤ last_kind time
+    → first_timeless c (asks kind value) ≡ false
 unfolding first_timeless
-first-timely time c r h few =
-    by_kind (λ (k : Kind). first_timeless c (asks k r.value) ≡ false) r.kind (λ k. refl) (λ k. refl) (λ k. refl) (λ k. refl) (λ k. refl)
-    (λ k. refl) (λ k. refl) (λ k. by time h few k)
-  where
-    by : (time : Bool) → c.time.timed ≡ time → r.kind ≤ last_kind time → 6 < r.kind → not c.time.timed ≡ false
-    by true h few k = ap not h
-    by false h few k = absurd (omega arith)
+first-timely time c InstructionWrite value h few = refl
+first-timely time c DataWrite value h few = refl
+first-timely time c StatusRead value h few = refl
+first-timely time c DataRead value h few = refl
+first-timely time c EightBits value h few = refl
+first-timely time c ChipSelectLow value h few = refl
+first-timely time c Reset value h few = refl
+first-timely true c TimePasses value h few = ap not h
+first-timely false c TimePasses value h few = absurd (omega (arith, few))
 
 -- with frame and fonts that fit, a record is refused where its first call is of the other link, and with 5
 module _ (e : Seen) (s : State) (frame : List ℕ) (fits : Fits e frame) where
@@ -124,7 +132,7 @@ module _ (e : Seen) (s : State) (frame : List ℕ) (fits : Fits e frame) where
   first-number (call ∷ calls) w = fitting_number call w
 
   record_number :
-      (r : Recorded)
+      (r : Record)
       → first_timeless s.control (calls_of r) ≡ false
       → (carried e r s frame).number ≡ (when first_of_other_link s.link (calls_of r) then 5 else 0)
   unfolding record_called called_in_turn
@@ -149,7 +157,7 @@ module _ (e : Seen) where
 
   -- the calls of an accepted record are all accepted
   record_accepted :
-      (r : Recorded) (s : State) (frame : List ℕ)
+      (r : Record) (s : State) (frame : List ℕ)
       → Fits e frame
       → first_timeless s.control (calls_of r) ≡ false
       → first_of_other_link s.link (calls_of r) ≡ false
@@ -158,7 +166,7 @@ module _ (e : Seen) where
   record_accepted r s frame fits =
       one_or_bits
       (λ (calls : List Event). first_timeless s.control calls ≡ false → first_of_other_link s.link calls ≡ false → AllAccepted s frame calls)
-      (kind_of r.kind) r.value
+      r.kind r.value
       (λ call w h. ap (λ (m : ℕ). m ∷ []) (fitting_number e s frame fits call w ∙ ap (λ (x : Bool). when x then 5 else 0) h))
       (λ w h. bits_accepted (highest_first r.value) s frame fits (not-false (is_serial s.link) h))
 
@@ -200,7 +208,7 @@ none-behind (bytes rest) n a more (uncounted size is l) = uncounted rest refl (o
 
 -- one record more before the stop
 one_more :
-    {rs : List Recorded} {behind : ℕ} {room : Room} {n number : ℕ} {answers : List RecordAnswer} {full : Bool} {l : Link} (r : Recorded) (a : RecordAnswer)
+    {rs : List Record} {behind : ℕ} {room : Room} {n number : ℕ} {answers : List RecordAnswer} {full : Bool} {l : Link} (r : Record) (a : RecordAnswer)
     → StopsAt rs behind (room_behind room (line n a)) (n + 1) answers number full l
     → StopsAt (r ∷ rs) behind room n (a ∷ answers) number full l
 one_more r a (behind_all p n f) = behind_all (ap suc p) n f
@@ -209,7 +217,7 @@ one_more r a (no_room at more d x n f) = no_room at more d (none-behind _ _ a _ 
 
 module _ (e : Seen) (time : Bool) (last : ℕ) where
   -- what holds of a replay from a place on, with this room
-  record Obeys (room : Room) (n : ℕ) (rs : List Recorded) (s : State) (frame : List ℕ) (r : Replayed) : Type 0 where
+  record Obeys (room : Room) (n : ℕ) (rs : List Record) (s : State) (frame : List ℕ) (r : Replayed) : Type 0 where
     stops : StopsAt rs last room n r.answers r.ending.number r.ending.full r.ending.state.link
     accepted :
         numbers_of e s frame (calls_of_all (take (length r.answers) rs))
@@ -219,7 +227,7 @@ module _ (e : Seen) (time : Bool) (last : ℕ) where
 
   -- an accepted record, and a replay behind it
   one-obeys :
-      (room : Room) (r : Recorded) (rs : List Recorded) (s : State) (frame : List ℕ) (n : ℕ) (on : Replayed)
+      (room : Room) (r : Record) (rs : List Record) (s : State) (frame : List ℕ) (n : ℕ) (on : Replayed)
       → Fits e frame
       → first_timeless s.control (calls_of r) ≡ false
       → (carried e r s frame).number ≡ 0
@@ -252,14 +260,14 @@ module _ (e : Seen) (time : Bool) (last : ℕ) where
 
   -- a replay that stops at once
   halted-obeys :
-      (room : Room) (rs : List Recorded) (s : State) (frame : List ℕ) (n number : ℕ) (full : Bool)
+      (room : Room) (rs : List Record) (s : State) (frame : List ℕ) (n number : ℕ) (full : Bool)
       → StopsAt rs last room n [] number full s.link
       → Obeys room n rs s frame (halted s frame n number full)
   unfolding after_calls answers answers_of flatten
   halted-obeys room rs s frame n number full stops = record { stops = stops; accepted = refl; stands = refl; answers = refl }
 
   records_obey :
-      (room : Room) (rs : List Recorded) (s : State) (frame : List ℕ) (n : ℕ)
+      (room : Room) (rs : List Record) (s : State) (frame : List ℕ) (n : ℕ)
       → Fits e frame
       → s.control.time.timed ≡ time
       → KindsIn time rs
@@ -268,7 +276,7 @@ module _ (e : Seen) (time : Bool) (last : ℕ) where
   records_obey room [] s frame n fits h few = halted-obeys room [] s frame n last false (behind_all refl refl refl)
   records_obey room (r ∷ rs) s frame n fits h few =
       let k = carried e r s frame in
-      let w = first-timely time s.control r h few.0 in
+      let w = first-timely time s.control r.kind r.value h few.0 in
       either-told (Obeys room n (r ∷ rs) s frame) (not (room_for room n))
       (λ q. halted-obeys room (r ∷ rs) s frame n 0 true (no_room r rs refl (none_left room n (not-true (room_for room n) q)) refl refl))
       (λ q. either-told (Obeys room n (r ∷ rs) s frame) (eqb k.number 0)
@@ -301,10 +309,10 @@ module _ (e : Seen) (room : Room) (capture : List ℕ) (s : State) (frame : List
   abbrev has_time : Bool
   has_time = s.control.time.timed
 
-  obeys : Fits e frame → Obeys e has_time (number (read_by s capture).stop) room place (read_by s capture).records s frame (replayed e room capture s frame place)
+  obeys : Fits e frame → Obeys e has_time (answer_number (read_by s capture).stop) room place (read_by s capture).records s frame (replayed e room capture s frame place)
   obeys fits =
       rw (let_in fits)
-      (records_obey e has_time (number (read_by s capture).stop) room (read_by s capture).records s frame place fits refl
+      (records_obey e has_time (answer_number (read_by s capture).stop) room (read_by s capture).records s frame place fits refl
       (contents_in has_time capture))
 
   pub replay-stops : ReplayStops e room capture s frame place (replayed e room capture s frame place)

@@ -1,4 +1,5 @@
 -- Only reads are replied to.
+use Rattle.std.proofs.Common.{None, Option, Some}
 use Prim.Native.Nat.{ℕ}
 use mathlib.Core.Bool.{Bool, true, false, beq, true≢false}
 use mathlib.Core.List.{List}
@@ -18,8 +19,6 @@ use Rattle.links.specs.declared.Link.TheVariants.{Parallel, Serial}
 use Rattle.links.specs.declared.Pairing.{Pairing}
 use Rattle.links.specs.declared.Pairing.TheVariants.{Empty, Upper, Lower}
 use Rattle.links.specs.declared.Carried.{Carried}
-use Rattle.links.specs.declared.Taken.{Taken}
-use Rattle.links.specs.declared.Taken.TheVariants.{OtherLink, Carries}
 use Rattle.links.specs.Halves as halves
 use Rattle.serial.specs.Serial.{heard}
 use Rattle.links.specs.Taken.{by_width, taken_by, replied}
@@ -49,9 +48,9 @@ module _ (m : Memories) (c : Control) where
   transfer_reply false pairing false byte = half-reply pairing false byte
   transfer_reply false pairing true byte = half-reply pairing true byte
 
-  abbrev taken_reply : Taken → ℕ
-  taken_reply OtherLink = 0
-  taken_reply (Carries x) = reply_of x
+  abbrev taken_reply : Option Carried → ℕ
+  taken_reply None = 0
+  taken_reply (Some x) = reply_of x
 
   taken-reply : (dl : Bool) (l : Link) (call : Event) → is_read call ≡ false → taken_reply (taken_by dl l call) ≡ 0
   unfolding taken_by performed
@@ -68,9 +67,9 @@ module _ (m : Memories) (c : Control) where
   taken-reply dl l (Reset pin) h = refl
   taken-reply dl l (Pass eights) h = refl
 
-other-reply : (e : Seen) (s : State) (frame : List ℕ) (t : Taken) → (unless_other e s frame t).reply ≡ taken_reply s.memories s.control t
-other-reply e s frame OtherLink = refl
-other-reply e s frame (Carries x) = refl
+other-reply : (e : Seen) (s : State) (frame : List ℕ) (t : Option Carried) → (unless_other e s frame t).reply ≡ taken_reply s.memories s.control t
+other-reply e s frame None = refl
+other-reply e s frame (Some x) = refl
 
 pub replies-to-reads : RepliesToReads
 unfolding called

@@ -7,7 +7,7 @@ use Rattle.picture.specs.Picture.{Seen, pictured}
 use Rattle.events.specs.declared.Event.{Event}
 use Rattle.calls.specs.State.{State, Valid}
 use Rattle.calls.specs.Calls.{called, after_calls}
-use Rattle.calls.proofs.Kept.{called-valid, called-length}
+use Rattle.calls.proofs.StaysInRange.{called-valid, called-length}
 use Rattle.demands.specs.Wires.{answers, numbers_of}
 use Rattle.demands.proofs.Repainted.{called-shows}
 

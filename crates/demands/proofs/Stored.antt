@@ -1,5 +1,6 @@
 -- A word's two bytes, by what doing the writes leaves and counts: an address set leaves its place, and the rest is computed. Over any way
 -- the calls leave and count the same.
+use Rattle.std.proofs.Common.{None, Option, Some}
 use Prim.Native.Nat.{ℕ, ◌≤◌, ◌<◌}
 use mathlib.Core.Bool.{Bool, true, false, ◌&&◌, true≢false}
 use mathlib.Core.List.{List, [], ◌∷◌}
@@ -7,15 +8,12 @@ use mathlib.Core.Path.{◌≡◌, refl, ap, ◌∙◌}
 use native.Mathlib.Omega.{arith}
 use Rattle.base.specs.Bits.{bits5_0, bits3_0}
 use Rattle.base.specs.Choice.{when◌then◌else◌}
-use Rattle.controller.specs.declared.Cell.TheVariants.{Nowhere, Word}
 use Rattle.controller.specs.declared.Time.{Time}
 use Rattle.controller.specs.declared.Control.{Control}
 use Rattle.controller.specs.declared.Region.{Region}
 use Rattle.controller.specs.declared.Region.TheVariants as region
 use Rattle.controller.specs.declared.Region.TheVariants.{Whole, Cells, GlyphHalf, GraphicHalf}
 use Rattle.controller.specs.declared.View.{View}
-use Rattle.controller.specs.declared.Waiting.{Waiting}
-use Rattle.controller.specs.declared.Waiting.TheVariants.{Nothing}
 use Rattle.controller.specs.Memories.{Memories}
 use Rattle.controller.specs.Instructions.{stepped, with_waiting, obeyed}
 use Rattle.controller.specs.Data.{stored, moved, moved_on}
@@ -50,7 +48,7 @@ waking v text false r = refl
 
 module _ (e : Seen) (frame : List ℕ) (m : Memories) (k : Control) (b c : ℕ) (p : b < 256) (q : c < 256) where
   -- a board with these flags, and all else as it is
-  abbrev from : Bool → Bool → Bool → Waiting → Time → Board
+  abbrev from : Bool → Bool → Bool → Option ℕ → Time → Board
   from re s sr waiting time =
       record {
         memories = m;
@@ -79,19 +77,19 @@ module _ (e : Seen) (frame : List ℕ) (m : Memories) (k : Control) (b c : ℕ) 
 
   text-counted : (z : Bool) (a : ℕ) (h : a < 256) → 0x80 ≤ a →
       item_counts e (from false z k.sr k.place.waiting no_time) (instruction a h ∷ datum b p ∷ datum c q ∷ [])
-      ≡ all_if k.standby (size (Cells (counter_cell k.place) (Word (bits5_0 a))))
-      ∷ size (Cells (Word (bits5_0 a)) Nowhere)
-      ∷ all_if z (size (Cells (Word (bits5_0 a)) (Word (stepped k.entry.id (bits5_0 a)))))
+      ≡ all_if k.standby (size (Cells (counter_cell k.place) (Some (bits5_0 a))))
+      ∷ size (Cells (Some (bits5_0 a)) None)
+      ∷ all_if z (size (Cells (Some (bits5_0 a)) (Some (stepped k.entry.id (bits5_0 a)))))
       ∷ []
   unfolding item_counts performed on_time carried_out executed written stored obeyed moved moved_on instruction_names write_names count_named named covers
   text-counted false a h low =
-      let first = waking k.view m.text k.standby (Cells (counter_cell k.place) (Word (bits5_0 a))) in
-      let word = size (Cells (Word (bits5_0 a)) Nowhere) in
-      let both = size (Cells (Word (bits5_0 a)) (Word (stepped k.entry.id (bits5_0 a)))) in
+      let first = waking k.view m.text k.standby (Cells (counter_cell k.place) (Some (bits5_0 a))) in
+      let word = size (Cells (Some (bits5_0 a)) None) in
+      let both = size (Cells (Some (bits5_0 a)) (Some (stepped k.entry.id (bits5_0 a)))) in
       rw (says-text k.sr k.place.target a low h) (ap (λ (n : ℕ). n ∷ word ∷ both ∷ []) first)
   text-counted true a h low =
-      let first = waking k.view m.text k.standby (Cells (counter_cell k.place) (Word (bits5_0 a))) in
-      let word = size (Cells (Word (bits5_0 a)) Nowhere) in
+      let first = waking k.view m.text k.standby (Cells (counter_cell k.place) (Some (bits5_0 a))) in
+      let word = size (Cells (Some (bits5_0 a)) None) in
       rw (says-text k.sr k.place.target a low h, count-all 1024 (λ i. true) (λ i h. refl)) (ap (λ (n : ℕ). n ∷ word ∷ 1024 ∷ []) first)
 
   glyph-left : (a : ℕ) (h : a < 256) → 0x40 ≤ a → a < 0x80 →
@@ -102,7 +100,7 @@ module _ (e : Seen) (frame : List ℕ) (m : Memories) (k : Control) (b c : ℕ) 
 
   glyph-counted : (a : ℕ) (h : a < 256) → 0x40 ≤ a → a < 0x80 →
       item_counts e (from false k.entry.s false k.place.waiting no_time) (instruction a h ∷ datum b p ∷ datum c q ∷ [])
-      ≡ all_if k.standby (size (Cells (counter_cell k.place) Nowhere))
+      ≡ all_if k.standby (size (Cells (counter_cell k.place) None))
       ∷ size (GlyphHalf (bits5_0 a) false)
       ∷ size (GlyphHalf (bits5_0 a) true)
       ∷ []
@@ -110,20 +108,20 @@ module _ (e : Seen) (frame : List ℕ) (m : Memories) (k : Control) (b c : ℕ) 
   glyph-counted a h low high =
       let more = size (GlyphHalf (bits5_0 a) false) ∷ size (GlyphHalf (bits5_0 a) true) ∷ [] in
       rw (says-glyph k.place.target a low high)
-      (ap (λ (n : ℕ). n ∷ more) (waking k.view m.text k.standby (Cells (counter_cell k.place) Nowhere)))
+      (ap (λ (n : ℕ). n ∷ more) (waking k.view m.text k.standby (Cells (counter_cell k.place) None)))
 
   -- the board after the row
   abbrev row_set : ℕ → Board
   row_set y =
-      let start : Board = from true k.entry.s k.sr Nothing no_time in
+      let start : Board = from true k.entry.s k.sr None no_time in
       board_after e start (obeyed_acted m start.control (GraphicAddress (bits5_0 y)))
 
   set-row : (y : ℕ) (h : y < 256) → 0x80 ≤ y →
-      let start : Board = from true k.entry.s k.sr Nothing no_time in
+      let start : Board = from true k.entry.s k.sr None no_time in
       performed m start.control (deed (instruction y h)) ≡ obeyed_acted m start.control (GraphicAddress (bits5_0 y))
   unfolding performed carried_out executed
   set-row y h low =
-      let start : Board = from true k.entry.s k.sr Nothing no_time in
+      let start : Board = from true k.entry.s k.sr None no_time in
       calm m start.control (Instruct y) ∙ ap (obeyed_acted m start.control) (says-graphic k.sr k.place.target y low h)
 
   set-column : (y x : ℕ) (i : x < 256) → 0x80 ≤ x →
@@ -133,21 +131,21 @@ module _ (e : Seen) (frame : List ℕ) (m : Memories) (k : Control) (b c : ℕ) 
       calm m (row_set y).control (Instruct x) ∙ ap (obeyed_acted m (row_set y).control) (says-graphic k.sr k.place.target x low i)
 
   graphic-left : (y x : ℕ) (h : y < 256) (i : x < 256) → 0x80 ≤ y → 0x80 ≤ x →
-      (does (board e) (from true k.entry.s k.sr Nothing no_time) (instruction y h ∷ instruction x i ∷ datum b p ∷ datum c q ∷ [])).memories
+      (does (board e) (from true k.entry.s k.sr None no_time) (instruction y h ∷ instruction x i ∷ datum b p ∷ datum c q ∷ [])).memories
       ≡ with_graphic_word (bits5_0 y) (bits3_0 x) b c m
   unfolding does performed on_time carried_out written stored obeyed moved moved_on
   graphic-left y x h i low low' =
       let row : bits5_0 (bits5_0 y) ≡ bits5_0 y = omega arith in
       let column : bits3_0 (bits5_0 x) ≡ bits3_0 x = omega arith in
-      let start = from true k.entry.s k.sr Nothing no_time in
+      let start = from true k.entry.s k.sr None no_time in
       ap (λ (a : Acted). (does (board e) (board_after e start a) (instruction x i ∷ datum b p ∷ datum c q ∷ [])).memories) (set-row y h low)
       ∙ ap (λ (a : Acted). (does (board e) (board_after e (row_set y) a) (datum b p ∷ datum c q ∷ [])).memories) (set-column y x i low')
       ∙ rw (row, column)
 
   graphic-counted : (y x : ℕ) (h : y < 256) (i : x < 256) → 0x80 ≤ y → 0x80 ≤ x →
-      item_counts e (from true k.entry.s k.sr Nothing no_time) (instruction y h ∷ instruction x i ∷ datum b p ∷ datum c q ∷ [])
+      item_counts e (from true k.entry.s k.sr None no_time) (instruction y h ∷ instruction x i ∷ datum b p ∷ datum c q ∷ [])
       ≡ all_if k.standby 0
-      ∷ size (Cells (counter_cell k.place) Nowhere)
+      ∷ size (Cells (counter_cell k.place) None)
       ∷ size (GraphicHalf (bits5_0 y) (bits3_0 x) false)
       ∷ size (GraphicHalf (bits5_0 y) (bits3_0 x) true)
       ∷ []
@@ -155,9 +153,9 @@ module _ (e : Seen) (frame : List ℕ) (m : Memories) (k : Control) (b c : ℕ) 
   graphic-counted y x h i low low' =
       let row : bits5_0 (bits5_0 y) ≡ bits5_0 y = omega arith in
       let column : bits3_0 (bits5_0 x) ≡ bits3_0 x = omega arith in
-      let start = from true k.entry.s k.sr Nothing no_time in
+      let start = from true k.entry.s k.sr None no_time in
       let more =
-      size (Cells (counter_cell k.place) Nowhere)
+      size (Cells (counter_cell k.place) None)
       ∷ size (GraphicHalf (bits5_0 y) (bits3_0 x) false)
       ∷ size (GraphicHalf (bits5_0 y) (bits3_0 x) true)
       ∷ [] in
@@ -186,7 +184,7 @@ module _ (e : Seen) (way : Way) (s : State) (frame : List ℕ) (b c : ℕ) (p : 
       writes_are_received e way s frame (items list) begins.fits begins.idle (writes-timely s.control list)
       (function_sets-keep-dl e way s frame list begins.width (sets-width way list sets))
 
-  abbrev own : Bool → Bool → Bool → Waiting → Time → Board
+  abbrev own : Bool → Bool → Bool → Option ℕ → Time → Board
   own re shifts sr waiting time = from e frame s.memories s.control b c p q re shifts sr waiting time
 
   -- the writes of a word after an address
@@ -254,7 +252,7 @@ module _ (e : Seen) (way : Way) (s : State) (frame : List ℕ) (b c : ℕ) (p : 
             ∙ glyph-counted e frame s.memories flags b c p q a h low high;
       }
 
-  graphic-stored : (y x : ℕ) (h : y < 256) (i : x < 256) → s.control.function.re ≡ true → s.control.place.waiting ≡ Nothing → 0x80 ≤ y → 0x80 ≤ x →
+  graphic-stored : (y x : ℕ) (h : y < 256) (i : x < 256) → s.control.function.re ≡ true → s.control.place.waiting ≡ None → 0x80 ≤ y → 0x80 ≤ x →
       Stores e way s frame (graphic_word y x h i) (with_graphic_word (bits5_0 y) (bits3_0 x) b c s.memories) (graphic_sizes s (bits5_0 y) (bits3_0 x))
   graphic-stored y x h i re waits low low' =
       record {
@@ -262,13 +260,13 @@ module _ (e : Seen) (way : Way) (s : State) (frame : List ℕ) (b c : ℕ) (p : 
             ap (λ (x : Stands). x.state.memories) (graphic-received y x h i (omega arith) (omega arith)).stands
             ∙ ap (λ (t : Time). left (graphic_word y x h i) (with_own t)) begins.untimed
             ∙ ap (λ (r : Bool). left (graphic_word y x h i) (own r flags.entry.s flags.sr flags.place.waiting no_time)) re
-            ∙ ap (λ (w : Waiting). left (graphic_word y x h i) (own true flags.entry.s flags.sr w no_time)) waits
+            ∙ ap (λ (w : Option ℕ). left (graphic_word y x h i) (own true flags.entry.s flags.sr w no_time)) waits
             ∙ graphic-left e frame s.memories flags b c p q y x h i low low';
         counts =
             (graphic-received y x h i (omega arith) (omega arith)).sums
             ∙ ap (λ (t : Time). item_counts e (with_own t) (graphic_word y x h i)) begins.untimed
             ∙ ap (λ (r : Bool). item_counts e (own r flags.entry.s flags.sr flags.place.waiting no_time) (graphic_word y x h i)) re
-            ∙ ap (λ (w : Waiting). item_counts e (own true flags.entry.s flags.sr w no_time) (graphic_word y x h i)) waits
+            ∙ ap (λ (w : Option ℕ). item_counts e (own true flags.entry.s flags.sr w no_time) (graphic_word y x h i)) waits
             ∙ graphic-counted e frame s.memories flags b c p q y x h i low low';
       }
 

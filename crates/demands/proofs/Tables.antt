@@ -14,15 +14,17 @@ use Rattle.base.proofs.Tests.{or_neither, and_both, never}
 use Rattle.sender.specs.Sender.{sent}
 use Rattle.picture.specs.Picture.{Seen}
 use Rattle.picture.specs.Refusals.{refusal_of}
-use Rattle.capture.specs.declared.Answer.{Answer}
-use Rattle.capture.specs.Kinds.{last_kind, kind_of}
+use Rattle.std.proofs.Common.{Some, None, Ok, Err}
+use Rattle.refusals.specs.Numbers.{answer_number}
+use Rattle.capture.specs.declared.kind.Kind.{Kind}
+use Rattle.capture.specs.declared.record.Record.{Record}
+use Rattle.capture.specs.Kinds.{last_kind, kind_of, kind_number}
 use Rattle.capture.specs.Kinds as kinds
 use Rattle.capture.specs.Record as records
-use Rattle.capture.specs.declared.Answer.TheVariants.{Record, Refused, End}
-use Rattle.capture.specs.Record.{taken_with}
-use Rattle.reader.specs.Capture.{Recorded, read_on, contents}
+use Rattle.capture.specs.Record.{Answer, taken_with}
+use Rattle.reader.specs.Capture.{read_on, contents}
 use Rattle.capture.proofs.Answers.{nothing_left, one_to_three_left}
-use Rattle.capture.proofs.ByKind.{by_kind}
+use Rattle.capture.proofs.ByKind.{by_kind, number_again}
 use Rattle.capture.proofs.Taken.{judged_with, taken_four_left}
 use Rattle.demands.specs.Demand1.{GoodFullFont, TableSays, frame_length, half_font_length, full_font_length, want_of_time, other_link, all_good, OneNumber, OneAnswer}
 use Rattle.demands.specs.Demand1 as demands
@@ -104,13 +106,17 @@ allowed-is kind value h =
 
 is-allowed : (kind value : ℕ) → Allowed kind value → kinds.allowed (kind_of kind) value ≡ true
 is-allowed kind value a =
-    by_kind (λ (k : kinds.Kind). kinds.allowed k value ≡ true) kind (λ k. refl) (λ k. refl)
+    by_kind (λ (k : Kind). kinds.allowed k value ≡ true) kind (λ k. refl) (λ k. refl)
     (λ k. eq-eqb value 0 (a.status_read k))
     (λ k. eq-eqb value 0 (a.data_read k))
     (λ k. refl)
     (λ k. eq-eqb value 0 (a.select_low k))
     (λ k. le-leb value 3 (a.reset k))
     (λ k. refl)
+
+seven-at_most : (time : Bool) (n : ℕ) → n ≤ last_kind time → n ≤ 7
+seven-at_most true n h = h
+seven-at_most false n h = omega arith
 
 module _ (time : Bool) (c : List ℕ) where
   is-marked : Marked c → records.marked (get_or c 0 0) (get_or c 1 0) ≡ true
@@ -126,7 +132,7 @@ module _ (time : Bool) (c : List ℕ) where
   taken = taken_with time (records.read_first c)
 
   abbrev Answers : Answer → Type 0
-  Answers a = RecordSays time c a (records.number a)
+  Answers a = RecordSays time c a (answer_number a)
 
   -- the tests of four bytes
   four_say : 4 ≤ length c → Answers (judged_with time (get_or c 0 0) (get_or c 1 0) (records.kind_byte c) (records.value_byte c))
@@ -174,7 +180,7 @@ module _ (time : Bool) (c : List ℕ) where
         is-allowed (records.kind_byte c) (records.value_byte c) v,
       )
 
-  record_number : (a : Answer) (n : ℕ) → RecordSays time c a n → n ≡ records.number a
+  record_number : (a : Answer) (n : ℕ) → RecordSays time c a n → n ≡ answer_number a
   record_number a n (demands.remain l b) = refl
   record_number a n (demands.mark l g) = refl
   record_number a n (demands.kind l m k) = refl
@@ -185,34 +191,36 @@ module _ (time : Bool) (c : List ℕ) where
   pub record_once : OneAnswer (RecordSays time c)
   record_once a b m n x y =
       let same = record_answer_lem a m x ∙ sym (record_answer_lem b n y) in
-      (same, record_number a m x ∙ ap records.number same ∙ sym (record_number b n y))
+      (same, record_number a m x ∙ ap answer_number same ∙ sym (record_number b n y))
 
   -- a record that is taken has a kind that the panel knows
   abbrev KindIn : Answer → Type 0
-  KindIn a = (kind value : ℕ) → a ≡ Record kind value → kind ≤ last_kind time
+  KindIn a = (r : Record) → a ≡ Ok (Some r) → kind_number r.kind ≤ last_kind time
 
   kind_in : (a : Answer) (n : ℕ) → RecordSays time c a n → KindIn a
-  kind_in a n (demands.remain l b) kind value is = absurd (let z : ◌≡◌ {A = ℕ} 0 1 = cc in omega arith)
-  kind_in a n (demands.mark l g) kind value is = absurd (let z : ◌≡◌ {A = ℕ} 0 1 = cc in omega arith)
-  kind_in a n (demands.kind l m k) kind value is = absurd (let z : ◌≡◌ {A = ℕ} 0 1 = cc in omega arith)
-  kind_in a n (demands.value l m k g) kind value is = absurd (let z : ◌≡◌ {A = ℕ} 0 1 = cc in omega arith)
-  kind_in a n (demands.end z) kind value is = absurd (let z : ◌≡◌ {A = ℕ} 0 1 = cc in omega arith)
-  kind_in a n (demands.good l m k v) kind value is = let same : records.kind_byte c ≡ kind = cc in rw (← same) k
+  kind_in a n (demands.remain l b) r is = absurd (let z : ◌≡◌ {A = ℕ} 0 1 = cc in omega arith)
+  kind_in a n (demands.mark l g) r is = absurd (let z : ◌≡◌ {A = ℕ} 0 1 = cc in omega arith)
+  kind_in a n (demands.kind l m k) r is = absurd (let z : ◌≡◌ {A = ℕ} 0 1 = cc in omega arith)
+  kind_in a n (demands.value l m k g) r is = absurd (let z : ◌≡◌ {A = ℕ} 0 1 = cc in omega arith)
+  kind_in a n (demands.end z) r is = absurd (let z : ◌≡◌ {A = ℕ} 0 1 = cc in omega arith)
+  kind_in a n (demands.good l m k v) r is =
+      let same : kind_of (records.kind_byte c) ≡ r.kind = cc in
+      rw (← same, number_again (records.kind_byte c) (seven-at_most time (records.kind_byte c) k)) k
 
   taken-kind : KindIn taken
-  taken-kind = kind_in taken (records.number taken) record_says
+  taken-kind = kind_in taken (answer_number taken) record_says
 
 -- so it is with all records of a capture
-unfoldable pub KindsIn : Bool → List Recorded → Type 0
+unfoldable pub KindsIn : Bool → List Record → Type 0
 KindsIn time [] = Unit {0}
-KindsIn time (r ∷ rs) = (r.kind ≤ last_kind time) × KindsIn time rs
+KindsIn time (r ∷ rs) = (kind_number r.kind ≤ last_kind time) × KindsIn time rs
 
 module _ (time : Bool) where
-  read_on_in : (a : Answer) (c : List ℕ) → ((kind value : ℕ) → a ≡ Record kind value → kind ≤ last_kind time) → KindsIn time (contents time c).records → KindsIn time (read_on a (contents time c)).records
+  read_on_in : (a : Answer) (c : List ℕ) → KindIn time c a → KindsIn time (contents time c).records → KindsIn time (read_on a (contents time c)).records
   unfolding KindsIn
-  read_on_in (Record kind value) c within more = (within kind value refl, more)
-  read_on_in (Refused n) c within more = tt
-  read_on_in End c within more = tt
+  read_on_in (Ok (Some r)) c within more = (within r refl, more)
+  read_on_in (Ok None) c within more = tt
+  read_on_in (Err refusal) c within more = tt
 
   pub contents_in : (c : List ℕ) → KindsIn time (contents time c).records
   unfolding contents KindsIn

@@ -19,7 +19,7 @@ use Rattle.repaint.specs.Repaint.{named}
 use Rattle.sender.specs.Sender.{three_bytes}
 use Rattle.calls.specs.State.{State}
 use Rattle.calls.specs.Calls.{refused, unless_other, taken_on, reaching, timeless, Fits, called}
-use Rattle.calls.proofs.Kept.{admitted}
+use Rattle.calls.proofs.StaysInRange.{admitted}
 use Rattle.demands.specs.Wires.{Timely, items}
 use Rattle.demands.specs.Demand3.{named_by}
 

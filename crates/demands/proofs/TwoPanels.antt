@@ -19,7 +19,7 @@ use Rattle.links.specs.Idle.{is_serial}
 use Rattle.picture.specs.Picture.{Seen}
 use Rattle.calls.specs.State.{Valid}
 use Rattle.calls.specs.Calls.{Called, Stands, after_calls}
-use Rattle.calls.proofs.Kept.{called-valid, still_fits}
+use Rattle.calls.proofs.StaysInRange.{called-valid, still_fits}
 use Rattle.lent_pair.specs.declared.Clock.{Clock}
 use Rattle.lent_pair.specs.Pair.{Side, comes_to, called_side, refused_side, pair_refusal, PairCalled, pair_called}
 use Rattle.lent_pair.proofs.Both.{Ready, BothReady, both_ready, ready_both, takes, counts-most, refused-clock, taken-clock, pair-numbers}

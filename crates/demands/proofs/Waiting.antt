@@ -1,5 +1,7 @@
 -- What is carried out does not look at the time. So a panel that is not busy does what the same panel does without time, and a wait, as
 -- long as the dearest transfer costs, leaves it not busy.
+use Rattle.std.proofs.Common.{None, Option, Some}
+use Rattle.links.specs.declared.Carried.{Carried}
 use Prim.Native.Nat.{ℕ, ◌*◌, ◌-◌, ◌≤◌}
 use mathlib.Core.Bool.{Bool, true, false}
 use mathlib.Core.List.{List, [], ◌∷◌}
@@ -26,12 +28,10 @@ use Rattle.events.specs.declared.Transfer.{Transfer}
 use Rattle.events.specs.declared.Transfer.TheVariants.{Instruct, Write, Status, Read}
 use Rattle.events.specs.declared.Deed.{Deed}
 use Rattle.events.specs.declared.Deed.TheVariants as deed
-use Rattle.links.specs.declared.Taken.{Taken}
-use Rattle.links.specs.declared.Taken.TheVariants.{OtherLink, Carries}
 use Rattle.picture.specs.Picture.{Seen}
 use Rattle.calls.specs.State.{State, state, Valid}
 use Rattle.calls.specs.Calls.{Called, accepted, unless_other, taken_on, Fits, called, after_calls}
-use Rattle.calls.proofs.Kept.{called-valid, called_timed, admitted, still_fits}
+use Rattle.calls.proofs.StaysInRange.{called-valid, called_timed, admitted, still_fits}
 use Rattle.demands.specs.Wires.{answers, numbers_of, replies_of, counts_of, no_time}
 use Rattle.demands.specs.Lost.{without_time, apart_from_time}
 use Rattle.demands.specs.WithoutTime.{is_pass}
@@ -98,9 +98,9 @@ served e s frame call h idle p =
     ∙ by (taken_on s call)
     ∙ sym (admitted e (without_time s) frame call h ∙ in_time e (without_time s) frame call p)
   where
-    by : (t : Taken) → apart_from_time (unless_other e s frame t) ≡ unless_other e (without_time s) frame t
-    by OtherLink = refl
-    by (Carries x) = sym (ap (λ (a : Acted). accepted e frame a x.rest) (performed-apart s.memories s.control idle x.deed))
+    by : (t : Option Carried) → apart_from_time (unless_other e s frame t) ≡ unless_other e (without_time s) frame t
+    by None = refl
+    by (Some x) = sym (ap (λ (a : Acted). accepted e frame a x.rest) (performed-apart s.memories s.control idle x.deed))
 
 -- after a wait nothing remains, whatever it was that a call left
 none_left : (timed : Bool) (n : ℕ) → n ≤ longest timed → ltb 0 (n - 8 * enough) ≡ false

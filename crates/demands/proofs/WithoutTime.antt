@@ -1,4 +1,6 @@
 -- Without time nothing is lost and nothing costs: so each deed is what it was, and with it each call.
+use Rattle.std.proofs.Common.{None, Option, Some}
+use Rattle.links.specs.declared.Carried.{Carried}
 use Prim.Native.Nat.{ℕ, ◌+◌, ◌-◌, ◌*◌}
 use mathlib.Core.Bool.{Bool, false, not, true≢false}
 use mathlib.Core.List.{List}
@@ -23,13 +25,11 @@ use Rattle.events.specs.declared.Transfer.{Transfer}
 use Rattle.events.specs.declared.Transfer.TheVariants.{Instruct, Write, Status, Read}
 use Rattle.events.specs.declared.Deed.{Deed}
 use Rattle.events.specs.declared.Deed.TheVariants as deed
-use Rattle.links.specs.declared.Taken.{Taken}
-use Rattle.links.specs.declared.Taken.TheVariants.{OtherLink, Carries}
 use Rattle.picture.specs.Picture.{Seen}
 use Rattle.picture.specs.Refusals.{lent_refusal}
 use Rattle.calls.specs.State.{State}
 use Rattle.calls.specs.Calls.{Called, refused, accepted, unless_other, taken_on, unless_timeless, called}
-use Rattle.calls.proofs.Kept.{admitted}
+use Rattle.calls.proofs.StaysInRange.{admitted}
 use Rattle.demands.specs.WithoutTime.{is_pass, carried_out_before, performed_before, unless_other_before, called_before, AsBeforeTime, NoTimePasses}
 
 -- a call of document 01 does not ask for time
@@ -76,9 +76,9 @@ as_before_time e s frame call v u p =
     ap (λ (k : Called). when eqb (lent_refusal e frame) 0 then k else refused s frame (lent_refusal e frame))
     (in_time e s frame call p ∙ by (taken_on s call))
   where
-    by : (t : Taken) → unless_other e s frame t ≡ unless_other_before e s frame t
-    by OtherLink = refl
-    by (Carries c) = ap (λ (a : Acted). accepted e frame a c.rest) (performed-before s.memories s.control v.control u c.deed)
+    by : (t : Option Carried) → unless_other e s frame t ≡ unless_other_before e s frame t
+    by None = refl
+    by (Some c) = ap (λ (a : Acted). accepted e frame a c.rest) (performed-before s.memories s.control v.control u c.deed)
 
 pub no_time-passes : NoTimePasses
 no_time-passes e s frame value h u =

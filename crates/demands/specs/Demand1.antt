@@ -1,7 +1,7 @@
 -- Demand 1. "The connector can carry anything at all, and so can a capture. Each public call refuses bad input itself, with the number
 -- in document 01, and a refused call or capture record leaves the panel state and each lent buffer as they were."
 -- Proved in proofs/, as `demand-1`.
-use Rattle.std.specs.Prelude.{ℕ, ◌+◌, ◌-◌, ◌^◌, ◌≤◌, ◌<◌, ◌%◌, Bool, true, false, not, List, [], ◌∷◌, ◌≢◌, ◌≡◌, length, take, drop, replicate, get_or}
+use Rattle.std.specs.Prelude.{ℕ, ◌+◌, ◌-◌, ◌^◌, ◌≤◌, ◌<◌, ◌%◌, Bool, true, false, not, List, [], ◌∷◌, ◌≢◌, ◌≡◌, length, take, drop, replicate, get_or, Some, None, Ok, Err}
 use Rattle.controller.specs.declared.Control.{Control}
 use Rattle.controller.specs.Memories.{Memories}
 use Rattle.events.specs.declared.Made.{Made}
@@ -18,12 +18,13 @@ use Rattle.lent_pair.specs.declared.Clock.{Clock}
 use Rattle.lent_pair.specs.Pair.{Side, refused_side, pair_called}
 use Rattle.pair_bytes.specs.Report.{SideBytes, spelled_side, pair_report, pair_reported}
 use Rattle.demands.specs.Wires.{numbers_of}
-use Rattle.capture.specs.declared.Answer.{Answer}
-use Rattle.capture.specs.declared.Answer.TheVariants.{Record, Refused, End}
+use Rattle.refusals.specs.declared.Refusal.TheVariants as refusal
+use Rattle.refusals.specs.Numbers.{answer_number}
+use Rattle.capture.specs.declared.record.Record.{Record}
 use Rattle.capture.specs.Kinds.{last_kind}
-use Rattle.capture.specs.Record.{kind_byte, value_byte, read_first, number, taken_with}
-use Rattle.reader.specs.Capture.{Recorded}
-use Rattle.printed.specs.Text.{RecordAnswer, lines, longest_line}
+use Rattle.capture.specs.Record.{Answer, kind_byte, value_byte, record_of, read_first, taken_with}
+use Rattle.printed.specs.declared.answer.RecordAnswer.{RecordAnswer}
+use Rattle.printed.specs.Text.{lines, longest_line}
 use Rattle.playback.specs.Replay.{Replayed, halted, Room, endless, bytes, read_by, replayed}
 use Rattle.playback.specs.Transcript.{told, transcribed}
 use Rattle.playback.specs.Statements.{PartsReplayAsWhole, PartsTranscribeAsWhole, RoomTellsAll}
@@ -122,16 +123,20 @@ pub record Allowed (kind value : ℕ) : Type 0 where
 -- what stands at the beginning of a capture, to a panel with or without time, with its number: 6 to 9 in their order; 0 for the end, and
 -- for a record
 pub data RecordSays (time : Bool) (c : List ℕ) : Answer → ℕ → Type 0 where
-  remain : 1 ≤ length c → length c ≤ 3 → RecordSays time c (Refused 6) 6
-  mark : 4 ≤ length c → (Marked c → ⊥) → RecordSays time c (Refused 7) 7
-  kind : 4 ≤ length c → Marked c → last_kind time < kind_byte c → RecordSays time c (Refused 8) 8
-  value : 4 ≤ length c → Marked c → kind_byte c ≤ last_kind time → (Allowed (kind_byte c) (value_byte c) → ⊥) → RecordSays time c (Refused 9) 9
-  end : length c ≡ 0 → RecordSays time c End 0
+  remain : 1 ≤ length c → length c ≤ 3 → RecordSays time c (Err refusal.Cut) 6
+  mark : 4 ≤ length c → (Marked c → ⊥) → RecordSays time c (Err refusal.Mark) 7
+  kind : 4 ≤ length c → Marked c → last_kind time < kind_byte c → RecordSays time c (Err refusal.Kind) 8
+  value : 4 ≤ length c
+      → Marked c
+      → kind_byte c ≤ last_kind time
+      → (Allowed (kind_byte c) (value_byte c) → ⊥)
+      → RecordSays time c (Err refusal.Value) 9
+  end : length c ≡ 0 → RecordSays time c (Ok None) 0
   good : 4 ≤ length c
       → Marked c
       → kind_byte c ≤ last_kind time
       → Allowed (kind_byte c) (value_byte c)
-      → RecordSays time c (Record (kind_byte c) (value_byte c)) 0
+      → RecordSays time c (Ok (Some (record_of (kind_byte c) (value_byte c)))) 0
 
 -- "when, and only then": a table gives one number alone
 abbrev pub OneNumber : (ℕ → Type 0) → Type 0
@@ -152,15 +157,15 @@ pub data NoRoom (room : Room) (place : ℕ) (answers : List RecordAnswer) : Type
 
 -- where a replay stops behind these answers, in a state with this link: at what stands behind the last record, with its number; at a
 -- record of the other link, with 5; or, where it writes lines, at a record whose line might have no room
-pub data StopsAt (rs : List Recorded) (behind : ℕ) (room : Room) (place : ℕ) (answers : List RecordAnswer) (number : ℕ) (full : Bool) (link : Link) : Type 0 where
+pub data StopsAt (rs : List Record) (behind : ℕ) (room : Room) (place : ℕ) (answers : List RecordAnswer) (number : ℕ) (full : Bool) (link : Link) : Type 0 where
   behind_all : length answers ≡ length rs → number ≡ behind → full ≡ false → StopsAt rs behind room place answers number full link
-  at_record : (r : Recorded) (more : List Recorded)
+  at_record : (r : Record) (more : List Record)
       → drop (length answers) rs ≡ r ∷ more
       → first_of_other_link link (calls_of r) ≡ true
       → number ≡ 5
       → full ≡ false
       → StopsAt rs behind room place answers number full link
-  no_room : (r : Recorded) (more : List Recorded)
+  no_room : (r : Record) (more : List Record)
       → drop (length answers) rs ≡ r ∷ more
       → NoRoom room place answers
       → number ≡ 0
@@ -176,7 +181,7 @@ pub record ReplayStops (e : Seen) (room : Room) (capture : List ℕ) (s : State)
   pub counts : r.ending.place ≡ place + length r.answers
   pub stops :
       BuffersSay e frame 0
-      → StopsAt (read_by s capture).records (number (read_by s capture).stop) room place r.answers r.ending.number r.ending.full r.ending.state.link
+      → StopsAt (read_by s capture).records (answer_number (read_by s capture).stop) room place r.answers r.ending.number r.ending.full r.ending.state.link
   -- every call of these records is accepted
   pub accepted :
       BuffersSay e frame 0
@@ -231,7 +236,7 @@ pub record Demand1 : Type 0 where
   pub pairs : (l r : Side) (clock : Clock) → PairRefuses l r clock
   pub draws : (e : Seen) (m : Memories) (c : Control) (frame : List ℕ) → DrawRefuses e m c frame
   pub sends : (register : Bool) (byte : ℕ) (buffer : List ℕ) → SendRefuses register byte buffer
-  pub captures : (time : Bool) (c : List ℕ) → RecordSays time c (taken_with time (read_first c)) (number (taken_with time (read_first c)))
+  pub captures : (time : Bool) (c : List ℕ) → RecordSays time c (taken_with time (read_first c)) (answer_number (taken_with time (read_first c)))
   -- of every replay, and so of `replay` and of `transcribe`
   pub replays :
       (e : Seen) (room : Room) (capture : List ℕ) (s : State) (frame : List ℕ) (place : ℕ)

@@ -3,7 +3,7 @@
 -- all three links, apart from the link's own bookkeeping and width flag, where function sets keep each link's width."
 -- Proved in proofs/, as `demand-2`.
 use Prim.{Unit}
-use Rattle.std.specs.Prelude.{ℕ, ◌≤◌, Bool, true, false, List, [], ◌∷◌, ◌++◌, map, ◌≡◌, length, drop}
+use Rattle.std.specs.Prelude.{ℕ, ◌≤◌, Bool, true, false, List, [], ◌∷◌, ◌++◌, ◌≡◌, length, drop, Result}
 use Rattle.controller.specs.declared.Control.{Control}
 use Rattle.controller.specs.Memories.{Memories}
 use Rattle.events.specs.declared.Event.{Event}
@@ -14,6 +14,7 @@ use Rattle.serial.specs.declared.Receiver.{Receiver}
 use Rattle.links.specs.declared.Link.TheVariants.{Serial}
 use Rattle.links.specs.Idle.{idle}
 use Rattle.sender.specs.Sender.{three_bytes, leaving, sent}
+use Rattle.refusals.specs.declared.Refusal.{Refusal}
 use Rattle.picture.specs.Picture.{Seen, pictured}
 use Rattle.picture.specs.Refusals.{drawing, drawn}
 use Rattle.controller.specs.State.{remade}
@@ -31,7 +32,7 @@ use Rattle.demands.specs.Waiting.{WaitingIsServed, WaitingSenderIsServed}
 use Rattle.demands.specs.Agreement.{CallIsConnected, SentIsReceived, WritesAreReceived, CarriedOutWhereNoneLost, NoneLostWithoutTime, LinksAgree, FunctionSetsKeepDl}
 use Rattle.panel.specs.declared.Panel.{Panel}
 use Rattle.panel.specs.declared.Outcome.{Outcome}
-use Rattle.panel.specs.Handed.{state_of, handed}
+use Rattle.panel.specs.Handed.{state_of, handed, panel_after}
 
 -- a call, with the fonts and the phase that it is given
 pub record Given : Type 0 where
@@ -40,7 +41,7 @@ pub record Given : Type 0 where
 
 -- what a call by value left: its outcome, and the frame
 pub record Left : Type 0 where
-  pub outcome : Outcome
+  pub outcome : Result Outcome Refusal
   pub frame : List ℕ
 
 -- a run of calls, each on the panel and the frame that the one before it left, and each as its contract says
@@ -49,7 +50,12 @@ Run p frame [] [] = Unit {0}
 Run p frame [] (l ∷ left) = ⊥
 Run p frame (g ∷ given) [] = ⊥
 Run p frame (g ∷ given) (l ∷ left) =
-    (handed l.outcome l.frame ≡ called g.seen (state_of p) frame g.call) × Run l.outcome.panel l.frame given left
+    (handed p l.outcome l.frame ≡ called g.seen (state_of p) frame g.call) × Run (panel_after p l.outcome) l.frame given left
+
+-- what the calls of a run left, each of the panel that it was made on
+unfoldable pub handed_on : Panel → List Left → List Called
+handed_on p [] = []
+handed_on p (l ∷ left) = handed p l.outcome l.frame ∷ handed_on (panel_after p l.outcome) left
 
 -- what the definitions yield, call after call
 unfoldable pub yielded : State → List ℕ → List Given → List Called
@@ -63,7 +69,7 @@ abbrev pub SequencesAsDefined : Type 0
 SequencesAsDefined =
     (p : Panel) (frame : List ℕ) (given : List Given) (left : List Left)
     → Run p frame given left
-    → map (λ l. handed l.outcome l.frame) left ≡ yielded (state_of p) frame given
+    → handed_on p left ≡ yielded (state_of p) frame given
 
 -- the calls that read
 abbrev pub is_read : Event → Bool

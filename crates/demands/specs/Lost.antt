@@ -1,6 +1,6 @@
 -- Request K1, "busy flag, with time", on demand 2: which transfers a busy panel loses, what a lost one leaves, and what every other one does.
 -- Each statement is proved in proofs/, under its own name in small letters (`LostLeavesAll` as `lost-leaves-all`).
-use Rattle.std.specs.Prelude.{ℕ, ◌+◌, ◌*◌, ◌-◌, ◌<◌, true, false, List, ◌↔◌, ◌≢◌, ◌≡◌}
+use Rattle.std.specs.Prelude.{ℕ, ◌+◌, ◌*◌, ◌-◌, ◌<◌, true, false, List, ◌↔◌, ◌≢◌, ◌≡◌, Some}
 use Rattle.base.specs.Choice.{when◌then◌else◌}
 use Rattle.table.specs.declared.Instruction.TheVariants.{Ignored, Clear}
 use Rattle.table.specs.Table.{said}
@@ -19,7 +19,6 @@ use Rattle.events.specs.declared.Deed.TheVariants as deed
 use Rattle.links.specs.declared.Link.TheVariants.{Parallel}
 use Rattle.links.specs.declared.Pairing.{Pairing}
 use Rattle.links.specs.declared.Rest.{Rest}
-use Rattle.links.specs.declared.Taken.TheVariants.{Carries}
 use Rattle.links.specs.Taken.{replied}
 use Rattle.picture.specs.Picture.{Seen}
 use Rattle.calls.specs.State.{State, state, fresh_state}
@@ -43,7 +42,7 @@ pub record Costs : Type 0 where
 -- a call brings this whole transfer to the controller: as one byte, or with the half byte or the serial bit at which it acts; and this is
 -- the rest, by which its answer goes back
 abbrev pub Brings : State → Event → Transfer → Rest → Type 0
-Brings s call t rest = taken_on s call ≡ Carries (record { deed = Whole t; rest = rest })
+Brings s call t rest = taken_on s call ≡ Some (record { deed = Whole t; rest = rest })
 
 -- 3. A call whose transfer is lost is accepted, replies 0, counts 0, and leaves the frame, the memories and the controls as they were, the
 -- remaining time among them; the link alone moves on, as it does with an answer of 0.
@@ -59,7 +58,7 @@ LostLeavesAll =
 -- a call brings nothing to the controller: a write's first half byte, a read's second, a bit that completes no byte, chip select
 -- low
 abbrev pub BringsNothing : State → Event → Rest → Type 0
-BringsNothing s call rest = taken_on s call ≡ Carries (record { deed = deed.Nothing; rest = rest })
+BringsNothing s call rest = taken_on s call ≡ Some (record { deed = deed.Nothing; rest = rest })
 
 -- 4. It costs nothing: all but the link is as it was, busy or not.
 abbrev pub QuietCallsCostNothing : Type 0

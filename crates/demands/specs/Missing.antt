@@ -1,21 +1,18 @@
 -- Request K6, "say which glyph is missing": what a cell shows by its code and the lent full font, what does not change with that font, and
 -- what is said of a cell that lacks a glyph. Each statement is proved in proofs/, under its own name in small letters (`BoxWhereMissing` as
 -- `box-where-missing`).
-use Rattle.std.specs.Prelude.{ℕ, ◌+◌, ◌*◌, ◌-◌, ◌/◌, ◌%◌, ◌≤◌, ◌<◌, Bool, ◌||◌, List, [], map, ◌≡◌, eqb, length}
+use Rattle.std.specs.Prelude.{ℕ, ◌+◌, ◌*◌, ◌-◌, ◌/◌, ◌%◌, ◌≤◌, ◌<◌, Bool, ◌||◌, List, [], map, ◌≡◌, eqb, length, None, Some}
 use Rattle.base.specs.Bits.{bit}
 use Rattle.base.specs.Choice.{when◌then◌else◌}
 use Rattle.controller.specs.declared.View.{View}
-use Rattle.controller.specs.declared.Image.TheVariants as image
 use Rattle.controller.specs.Memories.{Memories, half}
 use Rattle.controller.specs.Glass.{image_of, shown_row, shown_word}
 use Rattle.events.specs.declared.Event.{Event}
-use Rattle.numbering.specs.declared.Code.TheVariants.{Unnumbered, Number}
 use Rattle.glyph.specs.Dots.{image_byte, half_byte, box_byte}
 use Rattle.picture.specs.Picture.{Fonts, Seen, right, cell_byte}
 use Rattle.calls.specs.State.{State}
 use Rattle.calls.specs.Calls.{Called, Fits}
-use Rattle.missing.specs.declared.Lacks.TheVariants as lacks
-use Rattle.missing.specs.Missing.{band_row, missing_at}
+use Rattle.missing.specs.Missing.{band_row, code_of, missing_at}
 use Rattle.demands.specs.Wires.{answers}
 use Rattle.demands.specs.Numbered.{lead_at, trail_at, code_at, Answered}
 
@@ -35,7 +32,7 @@ BoxIsOutermost = (y : ℕ) (low : Bool) (x : ℕ) → x < 8 → dot x (box_byte 
 abbrev pub BoxWhereMissing : Type 0
 BoxWhereMissing =
     (e : Fonts) (m : Memories) (v : View) (row column i : ℕ)
-    → code_at m.text v row (column / 2) ≡ Number i
+    → code_at m.text v row (column / 2) ≡ Some i
     → length e.full < 32 * i + 32
     → cell_byte e m v row column ≡ box_byte (shown_row v row % 16) (right column)
 
@@ -43,7 +40,7 @@ BoxWhereMissing =
 abbrev pub EmptyFontGivesBoxes : Type 0
 EmptyFontGivesBoxes =
     (half : List ℕ) (m : Memories) (v : View) (row column i : ℕ)
-    → code_at m.text v row (column / 2) ≡ Number i
+    → code_at m.text v row (column / 2) ≡ Some i
     → cell_byte (record { half = half; full = [] }) m v row column ≡ box_byte (shown_row v row % 16) (right column)
 
 -- 4. Blank by the rules: a word from A1h on without a number, whatever the font.
@@ -51,20 +48,20 @@ abbrev pub BlankWithoutNumber : Type 0
 BlankWithoutNumber =
     (e : Fonts) (m : Memories) (v : View) (row column : ℕ)
     → 0xA1 ≤ lead_at m.text v row (column / 2)
-    → code_at m.text v row (column / 2) ≡ Unnumbered
+    → code_at m.text v row (column / 2) ≡ None
     → cell_byte e m v row column ≡ 0
 
 -- 5. Images and half glyphs are never missing: they are read from glyph memory and from the half font.
 abbrev pub ImagesNeverMissing : Type 0
 ImagesNeverMissing =
     (e : Fonts) (m : Memories) (v : View) (row column i : ℕ)
-    → image_of (lead_at m.text v row (column / 2)) (trail_at m.text v row (column / 2)) ≡ image.Number i
+    → image_of (lead_at m.text v row (column / 2)) (trail_at m.text v row (column / 2)) ≡ Some i
     → cell_byte e m v row column ≡ image_byte m.glyph i (shown_row v row % 16) (right column)
 
 abbrev pub HalvesNeverMissing : Type 0
 HalvesNeverMissing =
     (e : Fonts) (m : Memories) (v : View) (row column : ℕ)
-    → image_of (lead_at m.text v row (column / 2)) (trail_at m.text v row (column / 2)) ≡ image.Nothing
+    → image_of (lead_at m.text v row (column / 2)) (trail_at m.text v row (column / 2)) ≡ None
     → lead_at m.text v row (column / 2) < 0xA1
     → cell_byte e m v row column
     ≡ half_byte e.half (when right column then trail_at m.text v row (column / 2) else lead_at m.text v row (column / 2)) (shown_row v row % 16)
@@ -103,19 +100,19 @@ ShowsAsItsBand = (v : View) (row b cell : ℕ) → row < 32 → InBand v row b �
 abbrev pub ListedWhereMissing : Type 0
 ListedWhereMissing =
     (v : View) (size : ℕ) (text : List ℕ) (row cell i : ℕ)
-    → code_at text v row cell ≡ Number i
+    → code_at text v row cell ≡ Some i
     → size < 32 * i + 32
-    → missing_at v size text row cell ≡ lacks.Code (lead_at text v row cell) (trail_at text v row cell)
+    → missing_at v size text row cell ≡ Some (code_of (lead_at text v row cell) (trail_at text v row cell))
 
 abbrev pub NotListedWhereFound : Type 0
 NotListedWhereFound =
     (v : View) (size : ℕ) (text : List ℕ) (row cell i : ℕ)
-    → code_at text v row cell ≡ Number i
+    → code_at text v row cell ≡ Some i
     → 32 * i + 32 ≤ size
-    → missing_at v size text row cell ≡ lacks.Nothing
+    → missing_at v size text row cell ≡ None
 
 abbrev pub NotListedWithoutNumber : Type 0
 NotListedWithoutNumber =
     (v : View) (size : ℕ) (text : List ℕ) (row cell : ℕ)
-    → code_at text v row cell ≡ Unnumbered
-    → missing_at v size text row cell ≡ lacks.Nothing
+    → code_at text v row cell ≡ None
+    → missing_at v size text row cell ≡ None

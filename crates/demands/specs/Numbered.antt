@@ -1,6 +1,6 @@
 -- Request K3, "traditional and mixed fonts": the two numberings, and where the one that a panel has is chosen, kept and seen.
 -- Each statement is proved in proofs/, under its own name in small letters (`NoTwoShare` as `no-two-share`).
-use Rattle.std.specs.Prelude.{ℕ, ◌+◌, ◌*◌, ◌/◌, ◌%◌, ◌≤◌, ◌<◌, Bool, true, false, List, map, ◌≡◌, length, get_or}
+use Rattle.std.specs.Prelude.{ℕ, ◌+◌, ◌*◌, ◌/◌, ◌%◌, ◌≤◌, ◌<◌, Bool, true, false, List, map, ◌≡◌, length, get_or, Option, Some}
 use Rattle.controller.specs.declared.View.{View}
 use Rattle.controller.specs.Memories.{Memories, word_place}
 use Rattle.controller.specs.Glass.{shown_row, shown_word}
@@ -11,8 +11,6 @@ use Rattle.events.specs.declared.Made.{Made}
 use Rattle.events.specs.declared.Numbering.{Numbering}
 use Rattle.events.specs.declared.Numbering.TheVariants.{By96}
 use Rattle.events.specs.declared.Pin.{Pin}
-use Rattle.numbering.specs.declared.Code.{Code}
-use Rattle.numbering.specs.declared.Code.TheVariants.{Number}
 use Rattle.numbering.specs.Numbering.{number_of, number_count}
 use Rattle.glyph.specs.Lookup.{content_of}
 use Rattle.picture.specs.Picture.{Fonts, Seen, cell_byte}
@@ -27,8 +25,8 @@ NoTwoShare =
     (n : Numbering) (lead trail otherLead otherTrail i : ℕ)
     → trail < 256
     → otherTrail < 256
-    → number_of n lead trail ≡ Number i
-    → number_of n otherLead otherTrail ≡ Number i
+    → number_of n lead trail ≡ Some i
+    → number_of n otherLead otherTrail ≡ Some i
     → (lead ≡ otherLead) × (trail ≡ otherTrail)
 
 -- a code of two bytes that has a number
@@ -37,14 +35,14 @@ pub record CodeOf (n : Numbering) (i : ℕ) : Type 0 where
   pub trail : ℕ
   pub lead_byte : lead < 256
   pub trail_byte : trail < 256
-  pub numbered : number_of n lead trail ≡ Number i
+  pub numbered : number_of n lead trail ≡ Some i
 
 -- 2. Each of its 8,352 or 8,800 numbers is some code's, and no code has another.
 abbrev pub EachIsSomeCodes : Type 0
 EachIsSomeCodes = (n : Numbering) (i : ℕ) → i < number_count n → CodeOf n i
 
 abbrev pub NoneBeyond : Type 0
-NoneBeyond = (n : Numbering) (lead trail i : ℕ) → trail < 256 → number_of n lead trail ≡ Number i → i < number_count n
+NoneBeyond = (n : Numbering) (lead trail i : ℕ) → trail < 256 → number_of n lead trail ≡ Some i → i < number_count n
 
 -- 3. Images and half glyphs are as before: by either numbering a word with a high byte below A1h shows the same.
 abbrev pub OthersAsBefore : Type 0
@@ -61,7 +59,7 @@ lead_at text v row cell = get_or text (word_place (shown_word v row cell) false)
 abbrev pub trail_at : List ℕ → View → ℕ → ℕ → ℕ
 trail_at text v row cell = get_or text (word_place (shown_word v row cell) true) 0
 
-abbrev pub code_at : List ℕ → View → ℕ → ℕ → Code
+abbrev pub code_at : List ℕ → View → ℕ → ℕ → Option ℕ
 code_at text v row cell = number_of v.numbering (lead_at text v row cell) (trail_at text v row cell)
 
 -- 5. A cell whose code has a number in the panel's numbering shows the glyph of that number, where that lies inside the lent font (else the
@@ -69,7 +67,7 @@ code_at text v row cell = number_of v.numbering (lead_at text v row cell) (trail
 abbrev pub ShownByNumber : Type 0
 ShownByNumber =
     (e : Fonts) (m : Memories) (v : View) (row column i : ℕ)
-    → code_at m.text v row (column / 2) ≡ Number i
+    → code_at m.text v row (column / 2) ≡ Some i
     → 32 * i + 32 ≤ length e.full
     → cell_byte e m v row column ≡ get_or e.full (32 * i + 2 * (shown_row v row % 16) + column % 2) 0
 

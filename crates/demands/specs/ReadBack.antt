@@ -1,7 +1,6 @@
 -- Document 01, "Panel readings to be proved", cases 2 to 6 and 8 for every address and every two bytes: what is written is read back, and
 -- status tells the counter. Proved in proofs/, as `read_back`.
-use Rattle.std.specs.Prelude.{ℕ, ◌+◌, ◌%◌, ◌<◌, true, false, List, [], ◌∷◌, ◌++◌, ◌≡◌, length, replicate}
-use Rattle.controller.specs.declared.Waiting.TheVariants.{Nothing}
+use Rattle.std.specs.Prelude.{ℕ, ◌+◌, ◌%◌, ◌<◌, true, false, List, [], ◌∷◌, ◌++◌, ◌≡◌, length, replicate, None}
 use Rattle.controller.specs.Instructions.{stepped}
 use Rattle.events.specs.declared.Event.{Event}
 use Rattle.picture.specs.Picture.{Seen}
@@ -64,7 +63,7 @@ pub record ReadBack : Type 0 where
       (e : Seen) (s : State) (frame : List ℕ) (row column b c : ℕ)
       → TakesBytes e s frame
       → s.control.function.re ≡ true
-      → s.control.place.waiting ≡ Nothing
+      → s.control.place.waiting ≡ None
       → row < 64
       → column < 16
       → replies_of e s frame (there_and_back (to_graphic row column) b c) ≡ both_read (to_graphic row column) column ((column + 1) % 16) b c

@@ -3,7 +3,7 @@
 -- read off then, by the definitions that the contracts of the public calls cite. `ReadingsHold`, `TimedReadingsHold`, `TurnedReadingsHold` and
 -- `NumberedReadingsHold` are proved in proofs/, as `readings-hold`, `timed-readings-hold`, `turned-readings-hold` and `numbered-readings-hold`.
 use Prim.{Unit}
-use Rattle.std.specs.Prelude.{ℕ, ◌+◌, ◌*◌, Bool, true, false, List, [], ◌∷◌, map, ◌≡◌, replicate, get_or}
+use Rattle.std.specs.Prelude.{ℕ, ◌+◌, ◌*◌, Bool, true, false, List, [], ◌∷◌, map, ◌≡◌, replicate, get_or, None, Some}
 use Rattle.controller.specs.Memories.{word_place, graphic_place, fresh_memories}
 use Rattle.events.specs.declared.Numbering.{Numbering}
 use Rattle.events.specs.declared.Numbering.TheVariants.{By96, By160}
@@ -11,7 +11,6 @@ use Rattle.events.specs.declared.Event.{Event}
 use Rattle.events.specs.declared.Event.TheVariants.{Transfer, Bit, Reset, Pass}
 use Rattle.events.specs.declared.Transfer.TheVariants.{Instruct, Write, Status, Read}
 use Rattle.connector.specs.Items.{bits_of}
-use Rattle.numbering.specs.declared.Code.TheVariants.{Unnumbered, Number}
 use Rattle.numbering.specs.Numbering.{number_of}
 use Rattle.picture.specs.Picture.{Seen}
 use Rattle.records.specs.Records.{pin_of}
@@ -233,8 +232,8 @@ Reads o (graphic_word line column value) =
 Reads o (re_and_g re g) = (o.end.control.function.re ≡ re) × (o.end.control.function.g ≡ g)
 Reads o nothing_stored = o.end.memories ≡ fresh_memories
 Reads o (numbering n) = o.end.control.view.numbering ≡ n
-Reads o (glyph_number n lead trail number) = number_of n lead trail ≡ Number number
-Reads o (no_number n lead trail) = number_of n lead trail ≡ Unnumbered
+Reads o (glyph_number n lead trail number) = number_of n lead trail ≡ Some number
+Reads o (no_number n lead trail) = number_of n lead trail ≡ None
 
 unfoldable pub AllRead : Observed → List Reading → Type 0
 AllRead o [] = Unit {0}

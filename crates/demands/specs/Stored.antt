@@ -1,13 +1,11 @@
 -- Document 01, "Panel readings to be proved", cases 3, 5, 6, 8 and 11 for every address, every two bytes and every way: the hyphen and the
 -- seven. An address and two data writes put the first byte into the high half of the word there and the second into its low half; no
 -- other byte of any memory changes; and each write counts the bytes that document 01 names for it. Proved in proofs/, as `words-stored`.
-use Rattle.std.specs.Prelude.{ℕ, ◌≤◌, ◌<◌, Bool, true, false, List, [], ◌∷◌, ◌≡◌, set}
+use Rattle.std.specs.Prelude.{ℕ, ◌≤◌, ◌<◌, Bool, true, false, List, [], ◌∷◌, ◌≡◌, set, None, Some}
 use Rattle.base.specs.Bits.{bits5_0, bits3_0}
 use Rattle.base.specs.Choice.{when◌then◌else◌}
-use Rattle.controller.specs.declared.Cell.TheVariants.{Nowhere, Word}
 use Rattle.controller.specs.declared.Region.{Region}
 use Rattle.controller.specs.declared.Region.TheVariants.{Cells, GlyphHalf, GraphicHalf}
-use Rattle.controller.specs.declared.Waiting.TheVariants.{Nothing}
 use Rattle.controller.specs.Memories.{Memories, memories, word_place, graphic_place}
 use Rattle.controller.specs.Instructions.{stepped}
 use Rattle.controller.specs.Named.{counter_cell}
@@ -51,15 +49,15 @@ all_if all size = when all then 1024 else size
 -- steps, the new word's
 abbrev pub text_sizes : State → ℕ → List ℕ
 text_sizes s word =
-    all_if s.control.standby (size_on s (Cells (counter_cell s.control.place) (Word word)))
-    ∷ size_on s (Cells (Word word) Nowhere)
-    ∷ all_if s.control.entry.s (size_on s (Cells (Word word) (Word (stepped s.control.entry.id word))))
+    all_if s.control.standby (size_on s (Cells (counter_cell s.control.place) (Some word)))
+    ∷ size_on s (Cells (Some word) None)
+    ∷ all_if s.control.entry.s (size_on s (Cells (Some word) (Some (stepped s.control.entry.id word))))
     ∷ []
 
 -- glyph memory: the counter's cell before; each byte showing that half of that image row
 abbrev pub glyph_sizes : State → ℕ → List ℕ
 glyph_sizes s word =
-    all_if s.control.standby (size_on s (Cells (counter_cell s.control.place) Nowhere))
+    all_if s.control.standby (size_on s (Cells (counter_cell s.control.place) None))
     ∷ size_on s (GlyphHalf word false)
     ∷ size_on s (GlyphHalf word true)
     ∷ []
@@ -68,7 +66,7 @@ glyph_sizes s word =
 abbrev pub graphic_sizes : State → ℕ → ℕ → List ℕ
 graphic_sizes s row column =
     all_if s.control.standby 0
-    ∷ size_on s (Cells (counter_cell s.control.place) Nowhere)
+    ∷ size_on s (Cells (counter_cell s.control.place) None)
     ∷ size_on s (GraphicHalf row column false)
     ∷ size_on s (GraphicHalf row column true)
     ∷ []
@@ -110,7 +108,7 @@ pub record WordsStored : Type 0 where
       (e : Seen) (way : Way) (s : State) (frame : List ℕ) (y x b c : ℕ) (h : y < 256) (i : x < 256) (p : b < 256) (q : c < 256)
       → Begins e way s frame
       → s.control.function.re ≡ true
-      → s.control.place.waiting ≡ Nothing
+      → s.control.place.waiting ≡ None
       → 0x80 ≤ y
       → 0x80 ≤ x
       → let row : ℕ = bits5_0 y in

@@ -1,6 +1,7 @@
 -- Request K1 left what there was: a panel without time does what a panel does that knows nothing of time.
 -- Each statement is proved in proofs/, under its own name in small letters (`AsBeforeTime` as `as-before-time`).
-use Rattle.std.specs.Prelude.{ℕ, Bool, true, false, List, ◌≡◌, eqb}
+use Rattle.std.specs.Prelude.{ℕ, Bool, true, false, List, ◌≡◌, eqb, None, Option, Some}
+use Rattle.links.specs.declared.Carried.{Carried}
 use Rattle.base.specs.Choice.{when◌then◌else◌}
 use Rattle.controller.specs.declared.Control.{Control}
 use Rattle.controller.specs.declared.Region.TheVariants as region
@@ -14,8 +15,6 @@ use Rattle.events.specs.declared.Transfer.{Transfer}
 use Rattle.events.specs.declared.Transfer.TheVariants.{Instruct, Write, Status, Read}
 use Rattle.events.specs.declared.Deed.{Deed}
 use Rattle.events.specs.declared.Deed.TheVariants as deed
-use Rattle.links.specs.declared.Taken.{Taken}
-use Rattle.links.specs.declared.Taken.TheVariants.{OtherLink, Carries}
 use Rattle.picture.specs.Picture.{Seen}
 use Rattle.picture.specs.Refusals.{lent_refusal}
 use Rattle.calls.specs.State.{State, Valid}
@@ -44,9 +43,9 @@ performed_before m c (deed.Fresh pin) = restarted (remade c pin)
 performed_before m c (deed.Pass value) = acted m (nothing_done c)
 
 -- refusal 5, checked last
-abbrev pub unless_other_before : Seen → State → List ℕ → Taken → Called
-unless_other_before e s frame OtherLink = refused s frame 5
-unless_other_before e s frame (Carries c) = accepted e frame (performed_before s.memories s.control c.deed) c.rest
+abbrev pub unless_other_before : Seen → State → List ℕ → Option Carried → Called
+unless_other_before e s frame None = refused s frame 5
+unless_other_before e s frame (Some c) = accepted e frame (performed_before s.memories s.control c.deed) c.rest
 
 -- a call: refusals 1, 2, 3 in their order, then 5
 unfoldable pub called_before : Seen → State → List ℕ → Event → Called

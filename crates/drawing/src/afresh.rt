@@ -1,15 +1,16 @@
 // The whole picture, drawn afresh.
 ghost use Rattle.std.specs.Prelude.{◌≡◌};
+ghost use Rattle.refusals.specs.Numbers.{answer_number};
 ghost use Rattle.controller.specs.Memories.{memories};
-ghost use Rattle.picture.specs.Picture.{seen};
+ghost use Rattle.picture.specs.Lent.{seen_by};
 ghost use Rattle.picture.specs.Refusals.{drawing, drawn};
 
 use crate::whole::paint_whole;
 use controller::Control;
-use picture::looks::look;
-use picture::refusals::refusal;
+use picture::lent::Lent;
+use refusals::Refusal;
 
-// Draws into the frame and answers 0, or answers the refusal's number and drawing the frame as it was.
+// Draws into the frame, or refuses and leaves the frame as it was.
 #[tactic(auto, unfolding(picture::specs::Refusals::drawn))]
 pub fn draw(
     text: &[u8; 128],
@@ -17,17 +18,12 @@ pub fn draw(
     graphic: &[u8; 2048],
     control: Control,
     frame: &mut [u8],
-    half: &[u8],
-    full: &[u8],
-    phase: bool,
-) -> u8
-    ensures { drawing result frame.new ≡ drawn (seen half.now full.now phase) (memories text.now glyph.now graphic.now) control frame.old }
+    lent: &Lent,
+) -> Result<(), Refusal>
+    ensures { drawing (answer_number result) frame.new ≡ drawn (seen_by lent.now) (memories text.now glyph.now graphic.now) control frame.old }
 {
-    let number = refusal(frame.len(), half.len(), full.len());
-    if number != 0 {
-        return number;
-    }
-    let look = look(control, phase);
-    paint_whole(text, glyph, graphic, look, frame, half, full);
-    0
+    lent.check_lengths(frame.len())?;
+    let frame = frame.as_mut_array::<1024>().unwrap();
+    paint_whole(&lent.scene(text, glyph, graphic, control), frame);
+    Ok(())
 }

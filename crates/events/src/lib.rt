@@ -44,7 +44,7 @@ pub enum Event {
     Pass(u8),
 }
 
-// What of an event reaches the controller.
+// What of an event reaches the controller. That nothing does is a deed like the others: it has a reply.
 #[derive(Clone, Copy)]
 pub enum Deed {
     Nothing,

@@ -10,12 +10,5 @@ pub(crate) fn dot(frame: &[u8; 1024], x: usize, y: usize) -> u16
     ensures small { result < 2 }
 {
     let byte = frame[32 * y + x / 8];
-    wide((byte >> (7 - x % 8)) % 2)
-}
-
-// The same number with more room.
-fn wide(x: u8) -> u16
-    ensures { result ≡ x }
-{
-    x as u16
+    u16::from((byte >> (7 - x % 8)) % 2)
 }

@@ -3,6 +3,7 @@ ghost use Rattle.std.specs.Prelude.{◌≡◌, ◌+◌, ◌<◌};
 ghost use Rattle.frame_view.specs.Braille.{three_down, braille_at, line_of, character as characterAt, utf8 as utf8Of, text_at, braille as brailleOf};
 
 use crate::dots::dot;
+use std::array;
 
 // Three dots, from column x of row y down.
 #[tactic(auto, unfolding(crate::specs::Braille::three_down))]
@@ -91,11 +92,5 @@ fn text_byte(frame: &[u8; 1024], i: usize) -> u8
 pub fn braille(frame: &[u8; 1024]) -> [u8; 3910]
     ensures { result ≡ brailleOf frame.now }
 {
-    let mut out = [0u8; 3910];
-    let mut i: usize = 0;
-    while i < 3910 {
-        out[i] = text_byte(frame, i);
-        i += 1;
-    }
-    out
+    array::from_fn(|i| text_byte(frame, i))
 }

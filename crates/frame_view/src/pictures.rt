@@ -4,6 +4,7 @@ ghost use Rattle.frame_view.specs.Plain.{plain_at, plain as plain_of};
 ghost use Rattle.frame_view.specs.Pbm.{pbm_at, pbm as pbmOf};
 
 use crate::dots::dot;
+use std::array;
 
 // Byte i of the text.
 #[tactic(auto, unfolding(crate::specs::Plain::plain_at))]
@@ -26,13 +27,7 @@ fn plain_byte(frame: &[u8; 1024], i: usize) -> u8
 pub fn plain(frame: &[u8; 1024]) -> [u8; 8224]
     ensures { result ≡ plain_of frame.now }
 {
-    let mut out = [0u8; 8224];
-    let mut i: usize = 0;
-    while i < 8224 {
-        out[i] = plain_byte(frame, i);
-        i += 1;
-    }
-    out
+    array::from_fn(|i| plain_byte(frame, i))
 }
 
 const HEADER: [u8; 10] = *b"P4\n256 32\n";
@@ -54,11 +49,5 @@ fn pbm_byte(frame: &[u8; 1024], i: usize) -> u8
 pub fn pbm(frame: &[u8; 1024]) -> [u8; 1034]
     ensures { result ≡ pbmOf frame.now }
 {
-    let mut out = [0u8; 1034];
-    let mut at: usize = 0;
-    while at < 1034 {
-        out[at] = pbm_byte(frame, at);
-        at += 1;
-    }
-    out
+    array::from_fn(|at| pbm_byte(frame, at))
 }

@@ -12,17 +12,10 @@ pub use lookup::native;
 pub use numbers::numbered;
 
 // Wide is 32 rows of 32 bytes. Folded is 64 rows of 16: the left half of each wide row, and below them all the right halves.
-#[derive(Clone, Copy)]
+#[derive(Clone, Copy, Debug, PartialEq, Eq)]
 pub enum Glass {
     Wide,
     Folded,
-}
-
-// A glass that a caller in another language names by a number.
-#[derive(Clone, Copy)]
-pub enum Found {
-    Nothing,
-    Known(Glass),
 }
 
 // How many bytes its frame has.

@@ -65,12 +65,5 @@ pub fn native(place: usize) -> usize
     ensures value { result ≡ wide_place folded place }
     ensures inside { result < 1024 }
 {
-    widened(NATIVE[place])
-}
-
-// The same number with more room.
-fn widened(entry: u16) -> usize
-    ensures { result ≡ entry }
-{
-    entry as usize
+    usize::from(NATIVE[place])
 }

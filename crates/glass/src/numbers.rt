@@ -2,17 +2,15 @@
 ghost use Rattle.std.specs.Prelude.{◌≡◌};
 ghost use Rattle.glass.specs.Numbers.{numbered};
 
-use crate::{Found, Glass};
+use crate::Glass;
 
-// 0 is wide and 1 is folded; there is no other.
-pub fn numbered(number: u8) -> Found
+// The glass that a caller in another language names by a number: 0 is wide and 1 is folded; there is no other.
+pub fn numbered(number: u8) -> Option<Glass>
     ensures { result ≡ numbered number }
 {
-    if number == 0 {
-        return Found::Known(Glass::Wide);
+    match number {
+        0 => Some(Glass::Wide),
+        1 => Some(Glass::Folded),
+        _ => None,
     }
-    if number == 1 {
-        return Found::Known(Glass::Folded);
-    }
-    Found::Nothing
 }

@@ -17,3 +17,11 @@ pub enum Content {
     Missing,
     Blank,
 }
+
+// What dots are taken from: glyph memory and the two fonts.
+#[derive(Clone, Copy)]
+pub struct Glyphs<'a> {
+    pub memory: &'a [u8; 128],
+    pub half: &'a [u8; 2048],
+    pub full: &'a [u8],
+}

@@ -3,26 +3,25 @@ ghost use Rattle.std.specs.Prelude.{◌≡◌};
 ghost use Rattle.glyph.specs.Lookup.{full_of, font_of, content_of};
 
 use crate::Content;
-use controller::Image;
 use controller::named::image;
 use events::Numbering;
-use numbering::{Code, number};
+use numbering::number;
 
 // A numbered code shows its glyph where that lies whole inside a full font of `length` bytes; else its glyph is missing. One without a number is
 // blank.
 #[tactic(auto, unfolding(crate::specs::Lookup::full_of))]
-fn full_glyph(code: Code, length: usize) -> Content
+fn full_glyph(code: Option<u16>, length: usize) -> Content
     ensures { result ≡ full_of code length }
 {
     match code {
-        Code::Number(n) => {
+        Some(n) => {
             if 32 * (n as usize) + 32 <= length {
                 Content::Full(n)
             } else {
                 Content::Missing
             }
         }
-        Code::Unnumbered => Content::Blank,
+        None => Content::Blank,
     }
 }
 
@@ -42,9 +41,8 @@ fn by_font(numbering: Numbering, high: u8, low: u8, length: usize) -> Content
 pub fn content(numbering: Numbering, high: u8, low: u8, length: usize) -> Content
     ensures { result ≡ content_of numbering high low length }
 {
-    let image = image(high, low);
-    match image {
-        Image::Number(i) => Content::Image(i),
-        Image::Nothing => by_font(numbering, high, low, length),
+    match image(high, low) {
+        Some(i) => Content::Image(i),
+        None => by_font(numbering, high, low, length),
     }
 }

@@ -172,10 +172,7 @@ fn dot(drawing: &[u8; 8580], at: usize) -> u8
     requires { at < 8580 }
     ensures { result ≤ 1 }
 {
-    if drawing[at] == b'#' {
-        return 1;
-    }
-    0
+    u8::from(drawing[at] == b'#')
 }
 
 // A row of the drawing of character 20h + n, one dot from the left of its byte.
@@ -194,12 +191,10 @@ pub fn built_in() -> [u8; 2049]
 {
     let drawing = drawing();
     let mut half = [0u8; 2049];
-    let mut i: usize = 0;
-    while i < 1235 {
-        let n = i / 13;
-        let row = i % 13;
-        half[16 * (0x20 + n) + row + 2] = row_dots(&drawing, n, row);
-        i += 1;
+    for n in 0..95 {
+        for row in 0..13 {
+            half[16 * (0x20 + n) + row + 2] = row_dots(&drawing, n, row);
+        }
     }
     half
 }

@@ -6,7 +6,7 @@ ghost use Rattle.controller.specs.State.{InRange};
 ghost use Rattle.controller.specs.Instructions.{pointed, with_waiting, graphic_addressed, home, set_function, reverse_toggled, obeyed};
 
 use controller::controls::stepped;
-use controller::{Control, Entry, Function, Place, Shown, View, Waiting};
+use controller::{Control, Entry, Function, Place, Shown, View};
 use table::{Instruction, Target};
 
 // An address just set: the high half next, and a dummy read due.
@@ -19,33 +19,24 @@ fn pointed(target: Target, counter: u8, row: u8) -> Place
         row,
         low: false,
         dummy: true,
-        waiting: Waiting::Nothing,
+        waiting: None,
     }
 }
 
 // The place with another waiting row, or none.
-fn with_waiting(place: Place, waiting: Waiting) -> Place
+fn with_waiting(place: Place, waiting: Option<u8>) -> Place
     ensures { result ≡ with_waiting waiting place }
 {
-    let target = place.target;
-    Place {
-        target,
-        counter: place.counter,
-        row: place.row,
-        low: place.low,
-        dummy: place.dummy,
-        waiting,
-    }
+    Place { waiting, ..place }
 }
 
 // A graphic address: a row, which waits, or the column of the row that waits.
 fn graphic_addressed(place: Place, address: u8) -> Place
     ensures { result ≡ graphic_addressed place.waiting place address }
 {
-    let waiting = place.waiting;
-    match waiting {
-        Waiting::Nothing => with_waiting(place, Waiting::Row(address % 64)),
-        Waiting::Row(row) => pointed(Target::Graphic, address % 16, row),
+    match place.waiting {
+        None => with_waiting(place, Some(address % 64)),
+        Some(row) => pointed(Target::Graphic, address % 16, row),
     }
 }
 
@@ -74,7 +65,7 @@ fn reverse_toggled(view: View, byte: u8) -> View
     ensures { result ≡ reverse_toggled byte view }
 {
     let mut next = view;
-    let at = (byte % 4) as usize;
+    let at = usize::from(byte % 4);
     next.reversed[at] = !next.reversed[at];
     next
 }
@@ -99,7 +90,7 @@ pub fn obey(control: Control, instruction: Instruction) -> Control
     let view = control.view;
     let mut next = control;
     // An executed instruction drops a waiting row and ends standby.
-    next.place = with_waiting(place, Waiting::Nothing);
+    next.place = with_waiting(place, None);
     next.standby = false;
     match instruction {
         Instruction::Ignored => return control,
@@ -108,21 +99,17 @@ pub fn obey(control: Control, instruction: Instruction) -> Control
             next.entry.id = true;
         }
         Instruction::Home => next = home(next),
-        Instruction::EntryMode { id, s } => {
-            let entry = Entry { id, s };
-            next.entry = entry;
-        }
+        Instruction::EntryMode { id, s } => next.entry = Entry { id, s },
         Instruction::Display {
             display,
             cursor,
             blink,
         } => {
-            let shown = Shown {
+            next.shown = Shown {
                 display,
                 cursor,
                 blink,
             };
-            next.shown = shown;
         }
         Instruction::MoveCursor { right } => {
             let counter = stepped(right, place.counter);
@@ -130,8 +117,7 @@ pub fn obey(control: Control, instruction: Instruction) -> Control
         }
         Instruction::MoveDisplay { right } => next.view = view.display_moved(right),
         Instruction::FunctionSet { dl, re, g } => {
-            let function = control.function;
-            next.function = set_function(function, dl, re, g);
+            next.function = set_function(control.function, dl, re, g);
         }
         Instruction::GlyphAddress(address) => {
             next.place = pointed(Target::Glyph, address, place.row);

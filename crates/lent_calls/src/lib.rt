@@ -1,40 +1,36 @@
-// The calls that a board makes, after document 01, on memories that it keeps and lends: each is `call` with its event.
+// The calls that a board makes, after document 01, on memories that it keeps and lends: each is `call` with its event. They are the
+// document's calls, by its names, and so no one function with a parameter for the event.
 #![tactic(auto)]
 
-ghost use Rattle.std.specs.Prelude.{◌≡◌};
+ghost use Rattle.std.specs.Prelude.{◌≡◌, IfOk};
 ghost use Rattle.controller.specs.Memories.{memories};
 ghost use Rattle.controller.specs.State.{InRange};
 ghost use Rattle.events.specs.declared.Event.TheVariants as event;
-ghost use Rattle.picture.specs.Picture.{seen};
-ghost use Rattle.calls.specs.State.{state};
+ghost use Rattle.picture.specs.Lent.{seen_by};
+ghost use Rattle.calls.specs.State.{kept_state};
 ghost use Rattle.calls.specs.Calls.{called, left};
 
-use calls::{LentOutcome, call};
-use controller::Control;
+use calls::{Kept, LentOutcome, call};
 use events::{Event, Pin, Transfer};
-use links::Link;
+use picture::lent::Lent;
+use refusals::Refusal;
 
 // A transfer of the parallel link.
 pub fn transfer(
     text: &mut [u8; 128],
     glyph: &mut [u8; 128],
     graphic: &mut [u8; 2048],
-    control: Control,
-    link: Link,
+    kept: Kept,
     given: Transfer,
     frame: &mut [u8],
-    half: &[u8],
-    full: &[u8],
-    phase: bool,
-) -> LentOutcome
-    requires { InRange control }
-    ensures frame_after { left result (memories text.new glyph.new graphic.new) frame.new ≡ called (seen half.now full.now phase) (state (memories text.old glyph.old graphic.old) control link) frame.old (event.Transfer given) }
-    ensures valid { InRange result.control }
+    lent: &Lent,
+) -> Result<LentOutcome, Refusal>
+    requires { InRange kept.control }
+    ensures leaves { left kept result (memories text.new glyph.new graphic.new) frame.new ≡ called (seen_by lent.now) (kept_state (memories text.old glyph.old graphic.old) kept) frame.old (event.Transfer given) }
+    ensures valid { IfOk result (λ answer. InRange answer.kept.control) }
 {
     let transfer = Event::Transfer(given);
-    call(
-        text, glyph, graphic, control, link, transfer, frame, half, full, phase,
-    )
+    call(text, glyph, graphic, kept, transfer, frame, lent)
 }
 
 // One bit of the serial link, with chip select high.
@@ -42,22 +38,17 @@ pub fn bit(
     text: &mut [u8; 128],
     glyph: &mut [u8; 128],
     graphic: &mut [u8; 2048],
-    control: Control,
-    link: Link,
+    kept: Kept,
     given: bool,
     frame: &mut [u8],
-    half: &[u8],
-    full: &[u8],
-    phase: bool,
-) -> LentOutcome
-    requires { InRange control }
-    ensures frame_after { left result (memories text.new glyph.new graphic.new) frame.new ≡ called (seen half.now full.now phase) (state (memories text.old glyph.old graphic.old) control link) frame.old (event.Bit given) }
-    ensures valid { InRange result.control }
+    lent: &Lent,
+) -> Result<LentOutcome, Refusal>
+    requires { InRange kept.control }
+    ensures leaves { left kept result (memories text.new glyph.new graphic.new) frame.new ≡ called (seen_by lent.now) (kept_state (memories text.old glyph.old graphic.old) kept) frame.old (event.Bit given) }
+    ensures valid { IfOk result (λ answer. InRange answer.kept.control) }
 {
     let bit = Event::Bit(given);
-    call(
-        text, glyph, graphic, control, link, bit, frame, half, full, phase,
-    )
+    call(text, glyph, graphic, kept, bit, frame, lent)
 }
 
 // Chip select low on the serial link.
@@ -65,21 +56,16 @@ pub fn select_low(
     text: &mut [u8; 128],
     glyph: &mut [u8; 128],
     graphic: &mut [u8; 2048],
-    control: Control,
-    link: Link,
+    kept: Kept,
     frame: &mut [u8],
-    half: &[u8],
-    full: &[u8],
-    phase: bool,
-) -> LentOutcome
-    requires { InRange control }
-    ensures frame_after { left result (memories text.new glyph.new graphic.new) frame.new ≡ called (seen half.now full.now phase) (state (memories text.old glyph.old graphic.old) control link) frame.old event.SelectLow }
-    ensures valid { InRange result.control }
+    lent: &Lent,
+) -> Result<LentOutcome, Refusal>
+    requires { InRange kept.control }
+    ensures leaves { left kept result (memories text.new glyph.new graphic.new) frame.new ≡ called (seen_by lent.now) (kept_state (memories text.old glyph.old graphic.old) kept) frame.old event.SelectLow }
+    ensures valid { IfOk result (λ answer. InRange answer.kept.control) }
 {
     let low = Event::SelectLow;
-    call(
-        text, glyph, graphic, control, link, low, frame, half, full, phase,
-    )
+    call(text, glyph, graphic, kept, low, frame, lent)
 }
 
 // Reset with the interface pin and the numbering that it chooses, on either link.
@@ -87,22 +73,17 @@ pub fn reset(
     text: &mut [u8; 128],
     glyph: &mut [u8; 128],
     graphic: &mut [u8; 2048],
-    control: Control,
-    link: Link,
+    kept: Kept,
     pin: Pin,
     frame: &mut [u8],
-    half: &[u8],
-    full: &[u8],
-    phase: bool,
-) -> LentOutcome
-    requires { InRange control }
-    ensures frame_after { left result (memories text.new glyph.new graphic.new) frame.new ≡ called (seen half.now full.now phase) (state (memories text.old glyph.old graphic.old) control link) frame.old (event.Reset pin) }
-    ensures valid { InRange result.control }
+    lent: &Lent,
+) -> Result<LentOutcome, Refusal>
+    requires { InRange kept.control }
+    ensures leaves { left kept result (memories text.new glyph.new graphic.new) frame.new ≡ called (seen_by lent.now) (kept_state (memories text.old glyph.old graphic.old) kept) frame.old (event.Reset pin) }
+    ensures valid { IfOk result (λ answer. InRange answer.kept.control) }
 {
     let reset = Event::Reset(pin);
-    call(
-        text, glyph, graphic, control, link, reset, frame, half, full, phase,
-    )
+    call(text, glyph, graphic, kept, reset, frame, lent)
 }
 
 // So many times 8 microseconds pass, on either link.
@@ -110,20 +91,15 @@ pub fn pass(
     text: &mut [u8; 128],
     glyph: &mut [u8; 128],
     graphic: &mut [u8; 2048],
-    control: Control,
-    link: Link,
+    kept: Kept,
     eights: u8,
     frame: &mut [u8],
-    half: &[u8],
-    full: &[u8],
-    phase: bool,
-) -> LentOutcome
-    requires { InRange control }
-    ensures frame_after { left result (memories text.new glyph.new graphic.new) frame.new ≡ called (seen half.now full.now phase) (state (memories text.old glyph.old graphic.old) control link) frame.old (event.Pass eights) }
-    ensures valid { InRange result.control }
+    lent: &Lent,
+) -> Result<LentOutcome, Refusal>
+    requires { InRange kept.control }
+    ensures leaves { left kept result (memories text.new glyph.new graphic.new) frame.new ≡ called (seen_by lent.now) (kept_state (memories text.old glyph.old graphic.old) kept) frame.old (event.Pass eights) }
+    ensures valid { IfOk result (λ answer. InRange answer.kept.control) }
 {
     let pass = Event::Pass(eights);
-    call(
-        text, glyph, graphic, control, link, pass, frame, half, full, phase,
-    )
+    call(text, glyph, graphic, kept, pass, frame, lent)
 }

@@ -11,18 +11,16 @@ use Rattle.base.proofs.Choice.{by_test, either, either-told}
 use Rattle.events.specs.declared.Event.{Event}
 use Rattle.links.specs.Idle.{is_serial}
 use Rattle.picture.specs.Refusals.{lent_refusal}
-use Rattle.controller.specs.declared.Control.{Control}
-use Rattle.controller.specs.Memories.{Memories}
-use Rattle.controller.specs.State.{InRange}
-use Rattle.calls.specs.declared.LentOutcome.{LentOutcome}
-use Rattle.calls.specs.State.{Valid}
-use Rattle.calls.specs.Calls.{Called, Fits, left}
-use Rattle.calls.proofs.Kept.{called-valid, called-count}
+use Rattle.calls.specs.State.{State, Valid}
+use Rattle.calls.specs.Calls.{Called, Fits, refused}
+use Rattle.refusals.specs.declared.Refusal.{Refusal}
+use Rattle.refusals.specs.Numbers.{refusal_number}
+use Rattle.calls.proofs.Doors.{numbered}
+use Rattle.calls.proofs.StaysInRange.{called-valid, called-count}
 use Rattle.calls.proofs.Serial.{TakenSilently, bit-silent, select_low-silent}
 use Rattle.lent_pair.specs.declared.Clock.{Clock}
-use Rattle.lent_pair.specs.declared.LentPairOutcome.{LentPairOutcome}
 use Rattle.lent_pair.specs.Pair.{Side, comes_to, to_left, to_right, first_refusal, pair_refusal, PairCalled, called_side, refused_side, pair_called}
-use Rattle.lent_pair.specs.Lent.{both_answered, side_answer, pair_lent}
+use Rattle.lent_pair.specs.Lent.{side_answer}
 
 -- a side that is not refused
 pub record Ready (x : Side) : Type 0 where
@@ -67,55 +65,77 @@ pub takes : (x : Side) → Ready x → (select bit : Bool) → TakenSilently (ca
 takes x h true bit = bit-silent x.seen x.state x.frame bit h.fits h.serial
 takes x h false bit = select_low-silent x.seen x.state x.frame h.fits h.serial
 
--- with number 0 and no reply
-abbrev side_answer_as : ℕ → Called → Called
-side_answer_as n k = side_answer k.state n k.count k.frame
+-- so no refusal is left of it
+not_refused :
+    (x : Side)
+    → Ready x
+    → (select bit : Bool)
+    → {event : Event}
+    → event ≡ comes_to select bit
+    → (why : Refusal)
+    → {t : State} {g : List ℕ}
+    → refused t g (refusal_number why) ≡ called_side x event
+    → ⊥
+not_refused x h select bit come why is =
+    eqb-false _ 0 (numbered why) (ap (λ (k : Called). k.number) is ∙ rw come (takes x h select bit).number)
 
-answered_so : (k : Called) → TakenSilently k → side_answer_as 0 k ≡ k
+-- with number 0 and no reply
+abbrev answer_of : Called → Called
+answer_of k = side_answer k.state k.count k.frame
+
+answered_so : (k : Called) → TakenSilently k → answer_of k ≡ k
 answered_so k t =
     ap (λ (x : ℕ). record { state = k.state; number = x; reply = 0; count = k.count; frame = k.frame }) (sym t.number)
     ∙ ap (λ (x : ℕ). record { state = k.state; number = k.number; reply = x; count = k.count; frame = k.frame }) (sym t.reply)
 
--- what the code has found: whether each side is serial, and the first refusal
-module _ (l r : Side) (clock : Clock) {n : ℕ} {p q : Bool} (left-serial : p ≡ is_serial l.state.link) (right-serial : q ≡ is_serial r.state.link) (first : n ≡ first_refusal (lent_refusal l.seen l.frame) (lent_refusal r.seen r.frame) (p && q)) where
-  number_is : n ≡ pair_refusal l r
+-- what the code has found: whether each side is serial
+module _ (l r : Side) (clock : Clock) {p q : Bool} (left-serial : p ≡ is_serial l.state.link) (right-serial : q ≡ is_serial r.state.link) where
+  first_is : {n : ℕ} → n ≡ first_refusal (lent_refusal l.seen l.frame) (lent_refusal r.seen r.frame) (p && q) → n ≡ pair_refusal l r
   unfolding pair_refusal
-  number_is = rw (left-serial, right-serial) at first
+  first_is first = rw (left-serial, right-serial) at first
 
-  pub refuses : n ≢ 0 → record { left = refused_side l n; right = refused_side r n } ≡ pair_called l r clock
+  pub refuses :
+      (why : Refusal)
+      → refusal_number why ≡ first_refusal (lent_refusal l.seen l.frame) (lent_refusal r.seen r.frame) (p && q)
+      → record { left = refused_side l (refusal_number why); right = refused_side r (refusal_number why) } ≡ pair_called l r clock
   unfolding pair_called
-  refuses h = rw (← number_is, ne_eqb n 0 h)
+  refuses why first = rw (← first_is first, numbered why)
 
-  pub accepts :
-      n ≡ 0
-      → {to-left to-right : Event}
-      → to-left ≡ to_left clock
-      → to-right ≡ to_right clock
-      → {x y : Called}
-      → x ≡ called_side l to-left
-      → y ≡ called_side r to-right
-      → record { left = side_answer_as 0 x; right = side_answer_as 0 y } ≡ pair_called l r clock
-  unfolding pair_called
-  accepts h tl tr hx hy =
-      let ready = both_ready l r (sym number_is ∙ h) in
-      rw (← number_is, h, hx, hy, tl, tr, answered_so _ (takes l ready.left clock.left clock.bit), answered_so _ (takes r ready.right clock.right clock.bit))
+  module _ (none : 0 ≡ first_refusal (lent_refusal l.seen l.frame) (lent_refusal r.seen r.frame) (p && q)) where
+    ready : BothReady l r
+    ready = both_ready l r (sym (first_is none))
 
-  -- and so on lent memories
-  pub accepts-lent :
-      n ≡ 0
-      → {to-left to-right : Event}
-      → to-left ≡ to_left clock
-      → to-right ≡ to_right clock
-      → {x y : LentOutcome} {lm rm : Memories} {lf rf : List ℕ}
-      → left x lm lf ≡ called_side l to-left
-      → left y rm rf ≡ called_side r to-right
-      → {o : LentPairOutcome}
-      → o ≡ both_answered x y
-      → pair_lent o lm rm lf rf ≡ pair_called l r clock
-  accepts-lent h tl tr hx hy ho = rw ho (accepts h tl tr hx hy)
+    pub left_taken :
+        {event : Event}
+        → event ≡ to_left clock
+        → (why : Refusal)
+        → {t : State} {g : List ℕ}
+        → refused t g (refusal_number why) ≡ called_side l event
+        → {k : PairCalled}
+        → k ≡ pair_called l r clock
+    left_taken come why is = absurd (not_refused l ready.left clock.left clock.bit come why is)
 
-pub both_in_range : {a b c d : Control} → a ≡ c → b ≡ d → InRange c → InRange d → InRange a × InRange b
-both_in_range h g v w = (rw h v, rw g w)
+    pub right_taken :
+        {event : Event}
+        → event ≡ to_right clock
+        → (why : Refusal)
+        → {t : State} {g : List ℕ}
+        → refused t g (refusal_number why) ≡ called_side r event
+        → {k : PairCalled}
+        → k ≡ pair_called l r clock
+    right_taken come why is = absurd (not_refused r ready.right clock.right clock.bit come why is)
+
+    pub accepts :
+        {to-left to-right : Event}
+        → to-left ≡ to_left clock
+        → to-right ≡ to_right clock
+        → {x y : Called}
+        → x ≡ called_side l to-left
+        → y ≡ called_side r to-right
+        → record { left = answer_of x; right = answer_of y } ≡ pair_called l r clock
+    unfolding pair_called
+    accepts tl tr hx hy =
+        rw (← first_is none, hx, hy, tl, tr, answered_so _ (takes l ready.left clock.left clock.bit), answered_so _ (takes r ready.right clock.right clock.bit))
 
 -- a valid pair stays valid
 pub pair-valid :
@@ -179,3 +199,15 @@ pub pair_unmoved :
     → (pair_called l r clock).left.number ≢ 0
     → pair_called l r clock ≡ record { left = refused_side l (pair_refusal l r); right = refused_side r (pair_refusal l r) }
 pair_unmoved l r clock h = refused-clock l r clock (λ z. h ((pair-numbers l r clock).0 ∙ z))
+
+-- and what a refused one is told to leave is of the two states that it came to
+pub pair_kept :
+    (l r : Side) (clock : Clock) (s t : State) (f g : List ℕ) (why : Refusal)
+    → record { left = refused s f (refusal_number why); right = refused t g (refusal_number why) } ≡ pair_called l r clock
+    → record { left = refused l.state f (refusal_number why); right = refused r.state g (refusal_number why) } ≡ pair_called l r clock
+pair_kept l r clock s t f g why is =
+    let unmoved = pair_unmoved l r clock (λ z. eqb-false _ 0 (numbered why) (ap (λ (k : PairCalled). k.left.number) is ∙ z)) in
+    let number : refusal_number why ≡ pair_refusal l r = ap (λ (k : PairCalled). k.left.number) (is ∙ unmoved) in
+    let left_frame : f ≡ l.frame = ap (λ (k : PairCalled). k.left.frame) (is ∙ unmoved) in
+    let right_frame : g ≡ r.frame = ap (λ (k : PairCalled). k.right.frame) (is ∙ unmoved) in
+    rw (number, left_frame, right_frame) (sym unmoved)

@@ -1,34 +1,27 @@
 -- What a call of the pair on lent memories leaves: one number for both panels, no reply, and a count for each.
-use Rattle.std.specs.Prelude.{ℕ, List}
+use Rattle.std.specs.Prelude.{ℕ, List, Result, Ok, Err}
 use Rattle.controller.specs.Memories.{Memories}
-use Rattle.calls.specs.declared.LentOutcome.{LentOutcome}
-use Rattle.calls.specs.State.{State, state}
-use Rattle.calls.specs.Calls.{Called}
-use Rattle.lent_pair.specs.declared.Kept.{Kept}
+use Rattle.refusals.specs.declared.Refusal.{Refusal}
+use Rattle.refusals.specs.Numbers.{refusal_number}
+use Rattle.calls.specs.declared.Kept.{Kept}
+use Rattle.calls.specs.State.{State, kept_state}
+use Rattle.calls.specs.Calls.{Called, refused}
 use Rattle.lent_pair.specs.declared.LentPairOutcome.{LentPairOutcome}
 use Rattle.lent_pair.specs.Pair.{PairCalled}
 
-abbrev pub kept_of : LentOutcome → Kept
-kept_of a = record { control = a.control; link = a.link }
+-- of an accepted call, on either side: number 0, no reply, and the side's own count
+abbrev pub side_answer : State → ℕ → List ℕ → Called
+side_answer s count frame = record { state = s; number = 0; reply = 0; count = count; frame = frame }
 
--- the answer of two calls that are accepted, and of a refused one
-abbrev pub both_answered : LentOutcome → LentOutcome → LentPairOutcome
-both_answered left right =
-    record { left = kept_of left; right = kept_of right; number = 0; counts = record { left = left.count; right = right.count } }
-
-abbrev pub both_refused : Kept → Kept → ℕ → LentPairOutcome
-both_refused left right number = record { left = left; right = right; number = number; counts = record { left = 0; right = 0 } }
-
-abbrev pub kept_state : Memories → Kept → State
-kept_state m kept = state m kept.control kept.link
-
--- the pair's one number, no reply, and the side's own count
-abbrev pub side_answer : State → ℕ → ℕ → List ℕ → Called
-side_answer s number count frame = record { state = s; number = number; reply = 0; count = count; frame = frame }
-
-abbrev pub pair_lent : LentPairOutcome → Memories → Memories → List ℕ → List ℕ → PairCalled
-pair_lent r left_memories right_memories left_frame right_frame =
+-- an accepted call leaves what it answers, and a refused one what the two panels had
+abbrev pub pair_lent : Kept → Kept → Result LentPairOutcome Refusal → Memories → Memories → List ℕ → List ℕ → PairCalled
+pair_lent left right (Ok r) left_memories right_memories left_frame right_frame =
     record {
-      left = side_answer (kept_state left_memories r.left) r.number r.counts.left left_frame;
-      right = side_answer (kept_state right_memories r.right) r.number r.counts.right right_frame;
+      left = side_answer (kept_state left_memories r.kept.left) r.counts.left left_frame;
+      right = side_answer (kept_state right_memories r.kept.right) r.counts.right right_frame;
+    }
+pair_lent left right (Err refusal) left_memories right_memories left_frame right_frame =
+    record {
+      left = refused (kept_state left_memories left) left_frame (refusal_number refusal);
+      right = refused (kept_state right_memories right) right_frame (refusal_number refusal);
     }

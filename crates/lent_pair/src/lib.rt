@@ -3,8 +3,7 @@
 // lends; crate `pair` has it by value.
 #![tactic(auto)]
 
-use controller::Control;
-use links::Link;
+use calls::Kept;
 
 mod lent;
 mod wire;
@@ -19,25 +18,16 @@ pub struct Clock {
     pub right: bool,
 }
 
-// How many bytes of either frame were named.
+// The same of either panel.
 #[derive(Clone, Copy)]
-pub struct PairCounts {
-    pub left: usize,
-    pub right: usize,
+pub struct Sides<T> {
+    pub left: T,
+    pub right: T,
 }
 
-// What a board keeps of a panel beside its memories.
-#[derive(Clone, Copy)]
-pub struct Kept {
-    pub control: Control,
-    pub link: Link,
-}
-
-// What a call answers: controls and link of both panels as they are next, the refusal number, and the counts.
+// What an accepted call answers: what the board keeps of either panel next, and how many bytes of its frame were named.
 #[derive(Clone, Copy)]
 pub struct LentPairOutcome {
-    pub left: Kept,
-    pub right: Kept,
-    pub number: u8,
-    pub counts: PairCounts,
+    pub kept: Sides<Kept>,
+    pub counts: Sides<usize>,
 }

@@ -1,12 +1,14 @@
 // What comes to a panel at a clock, and what the pair refuses.
-ghost use Rattle.std.specs.Prelude.{◌≡◌};
+ghost use Rattle.std.specs.Prelude.{◌≡◌, length};
 ghost use Rattle.links.specs.Idle.{is_serial};
+ghost use Rattle.refusals.specs.Numbers.{answer_number};
 ghost use Rattle.picture.specs.Refusals.{refusal_of};
 ghost use Rattle.lent_pair.specs.Pair.{comes_to, first_refusal};
 
 use events::Event;
 use links::Link;
-use picture::refusals::refusal;
+use picture::lent::Lent;
+use refusals::Refusal;
 
 // The bit where the panel's select is high; else that its select is low.
 pub(crate) fn comes_to(select: bool, bit: bool) -> Event
@@ -21,35 +23,23 @@ pub(crate) fn comes_to(select: bool, bit: bool) -> Event
 pub(crate) fn is_serial(link: Link) -> bool
     ensures { result ≡ is_serial link }
 {
-    match link {
-        Link::Parallel(_) => false,
-        Link::Serial(_) => true,
-    }
+    matches!(link, Link::Serial(_))
 }
 
 // The first refusal: that of the left panel's frame and fonts, that of the right's, or that not both panels are serial.
-#[tactic(auto, unfolding(picture::specs::Refusals::refusal_of))]
 pub(crate) fn first_refusal(
     left_frame: usize,
-    left_half: usize,
-    left_full: usize,
+    left: &Lent,
     right_frame: usize,
-    right_half: usize,
-    right_full: usize,
+    right: &Lent,
     serial: bool,
-) -> u8
-    ensures { result ≡ first_refusal (refusal_of left_frame left_half left_full) (refusal_of right_frame right_half right_full) serial }
+) -> Result<(), Refusal>
+    ensures { answer_number result ≡ first_refusal (refusal_of left_frame (length left.now.half.now) (length left.now.full.now)) (refusal_of right_frame (length right.now.half.now) (length right.now.full.now)) serial }
 {
-    let left = refusal(left_frame, left_half, left_full);
-    if left != 0 {
-        return left;
-    }
-    let right = refusal(right_frame, right_half, right_full);
-    if right != 0 {
-        return right;
-    }
+    left.check_lengths(left_frame)?;
+    right.check_lengths(right_frame)?;
     if !serial {
-        return 5;
+        return Err(Refusal::OtherLink);
     }
-    0
+    Ok(())
 }

@@ -1,5 +1,5 @@
 -- Document 01, "Links": what a link makes of an event: what of it reaches the controller, and how the controller's answer goes back.
-use Rattle.std.specs.Prelude.{ℕ, Bool}
+use Rattle.std.specs.Prelude.{ℕ, Bool, None, Option, Some}
 use Rattle.base.specs.Choice.{when◌then◌else◌}
 use Rattle.events.specs.declared.Transfer.{Transfer}
 use Rattle.events.specs.declared.Event.{Event}
@@ -9,15 +9,12 @@ use Rattle.links.specs.declared.Link.TheVariants.{Parallel, Serial}
 use Rattle.links.specs.declared.Pairing.{Pairing}
 use Rattle.links.specs.declared.Pairing.TheVariants.{Empty}
 use Rattle.serial.specs.declared.Received.{Received}
-use Rattle.serial.specs.declared.Received.TheVariants as received
 use Rattle.serial.specs.declared.Heard.{Heard}
 use Rattle.events.specs.declared.Deed.{Deed}
 use Rattle.events.specs.declared.Deed.TheVariants.{Nothing, Whole, Fresh, Pass}
 use Rattle.links.specs.declared.Rest.{Rest}
 use Rattle.links.specs.declared.Rest.TheVariants.{Stays, Halved, Handed}
 use Rattle.links.specs.declared.Carried.{Carried}
-use Rattle.links.specs.declared.Taken.{Taken}
-use Rattle.links.specs.declared.Taken.TheVariants.{OtherLink, Carries}
 use Rattle.links.specs.declared.Replied.{Replied}
 use Rattle.links.specs.Halves.{writing, paired, first_reply, pairing_after}
 use Rattle.serial.specs.Serial.{heard, after_select_low}
@@ -32,34 +29,34 @@ unfoldable pub by_width : Bool → Pairing → Transfer → Carried
 by_width dl pairing t = when dl then stays (Whole t) (Parallel pairing) else paired pairing t
 
 -- a transfer is of the parallel link
-abbrev pub transfer_taken : Bool → Link → Transfer → Taken
-transfer_taken dl (Parallel pairing) t = Carries (by_width dl pairing t)
-transfer_taken dl (Serial receiver) t = OtherLink
+abbrev pub transfer_taken : Bool → Link → Transfer → Option Carried
+transfer_taken dl (Parallel pairing) t = Some (by_width dl pairing t)
+transfer_taken dl (Serial receiver) t = None
 
 -- serial: a byte acts on the bit that completes it
-abbrev pub deed_of : Received → Deed
-deed_of received.Nothing = Nothing
-deed_of (received.Byte register byte) = Whole (writing register byte)
+abbrev pub deed_of : Option Received → Deed
+deed_of None = Nothing
+deed_of (Some received) = Whole (writing received.register received.byte)
 
 abbrev pub bit_carried : Heard → Carried
 bit_carried h = stays (deed_of h.received) (Serial h.receiver)
 
 -- a bit is of the serial link, and so is chip select low
-abbrev pub bit_taken : Link → Bool → Taken
-bit_taken (Parallel pairing) bit = OtherLink
-bit_taken (Serial receiver) bit = Carries (bit_carried (heard receiver bit))
+abbrev pub bit_taken : Link → Bool → Option Carried
+bit_taken (Parallel pairing) bit = None
+bit_taken (Serial receiver) bit = Some (bit_carried (heard receiver bit))
 
-abbrev pub select_taken : Link → Taken
-select_taken (Parallel pairing) = OtherLink
-select_taken (Serial receiver) = Carries (stays Nothing (Serial (after_select_low receiver)))
+abbrev pub select_taken : Link → Option Carried
+select_taken (Parallel pairing) = None
+select_taken (Serial receiver) = Some (stays Nothing (Serial (after_select_low receiver)))
 
 -- an event on a link, by DL; reset is of both links, takes the interface pin, and leaves the link idle; time passes beside both
-unfoldable pub taken_by : Bool → Link → Event → Taken
+unfoldable pub taken_by : Bool → Link → Event → Option Carried
 taken_by dl link (event.Transfer t) = transfer_taken dl link t
 taken_by dl link (event.Bit bit) = bit_taken link bit
 taken_by dl link event.SelectLow = select_taken link
-taken_by dl link (event.Reset pin) = Carries (stays (Fresh pin) (idle pin.parallel))
-taken_by dl link (event.Pass eights) = Carries (stays (Pass eights) link)
+taken_by dl link (event.Reset pin) = Some (stays (Fresh pin) (idle pin.parallel))
+taken_by dl link (event.Pass eights) = Some (stays (Pass eights) link)
 
 -- how the answer goes back: whole; of a half byte that acted the upper four bits, with the low four of a read's kept; or as it was kept
 abbrev pub replied : Rest → ℕ → Replied

@@ -26,20 +26,11 @@ fn write_half(pairing: Pairing, register: bool, value: u8) -> Carried
     ensures { result ≡ write_half pairing register value }
 {
     match pairing {
-        Pairing::Empty => kept(register, value / 16),
         Pairing::Upper {
             register: was,
             upper,
-        } => {
-            if was == register {
-                return acts(writing(register, joined(upper, value / 16)));
-            }
-            kept(register, value / 16)
-        }
-        Pairing::Lower {
-            register: _,
-            lower: _,
-        } => kept(register, value / 16),
+        } if was == register => acts(writing(register, joined(upper, value / 16))),
+        _ => kept(register, value / 16),
     }
 }
 
@@ -49,20 +40,11 @@ fn read_half(pairing: Pairing, register: bool) -> Carried
     ensures { result ≡ read_half pairing register }
 {
     match pairing {
-        Pairing::Empty => acts(reading(register)),
-        Pairing::Upper {
-            register: _,
-            upper: _,
-        } => acts(reading(register)),
         Pairing::Lower {
             register: was,
             lower,
-        } => {
-            if was == register {
-                return hands_over(raised(lower));
-            }
-            acts(reading(register))
-        }
+        } if was == register => hands_over(raised(lower)),
+        _ => acts(reading(register)),
     }
 }
 
@@ -127,8 +109,7 @@ pub(crate) fn pairing_after(acted: Transfer, answer: u8) -> Pairing
     ensures { result ≡ pairing_after acted answer }
 {
     match acted {
-        Transfer::Instruct(_) => Pairing::Empty,
-        Transfer::Write(_) => Pairing::Empty,
+        Transfer::Instruct(_) | Transfer::Write(_) => Pairing::Empty,
         Transfer::Status => Pairing::Lower {
             register: false,
             lower: answer % 16,

@@ -31,13 +31,6 @@ pub struct Carried {
     pub rest: Rest,
 }
 
-// What a link makes of an event.
-#[derive(Clone, Copy)]
-pub enum Taken {
-    OtherLink,
-    Carries(Carried),
-}
-
 // What a link answers, and what it is then.
 #[derive(Clone, Copy)]
 pub struct Replied {

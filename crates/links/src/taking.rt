@@ -3,21 +3,21 @@ ghost use Rattle.std.specs.Prelude.{◌≡◌};
 ghost use Rattle.links.specs.Taken.{stays, deed_of, by_width, transfer_taken, bit_taken, select_taken, taken_by, replied};
 
 use crate::halves::{first_reply, pair, pairing_after, writing};
-use crate::{Carried, Link, Pairing, Replied, Rest, Taken, idle};
+use crate::{Carried, Link, Pairing, Replied, Rest, idle};
 use events::{Deed, Event, Transfer};
 use serial::{Received, hear, select_low};
 
-// An event, by DL: of the other link, or with what of it reaches the controller.
+// What a link makes of an event, by DL; nothing where it is of the other link.
 #[tactic(auto, unfolding(crate::specs::Taken::taken_by))]
-pub fn take(dl: bool, link: Link, event: Event) -> Taken
+pub fn take(dl: bool, link: Link, event: Event) -> Option<Carried>
     ensures { result ≡ taken_by dl link event }
 {
     match event {
         Event::Transfer(transfer) => transfer_taken(dl, link, transfer),
         Event::Bit(bit) => bit_taken(link, bit),
         Event::SelectLow => select_taken(link),
-        Event::Reset(pin) => Taken::Carries(stays(Deed::Fresh(pin), idle(pin.parallel))),
-        Event::Pass(eights) => Taken::Carries(stays(Deed::Pass(eights), link)),
+        Event::Reset(pin) => Some(stays(Deed::Fresh(pin), idle(pin.parallel))),
+        Event::Pass(eights) => Some(stays(Deed::Pass(eights), link)),
     }
 }
 
@@ -32,12 +32,12 @@ fn stays(deed: Deed, link: Link) -> Carried
 }
 
 // A transfer is of the parallel link.
-fn transfer_taken(dl: bool, link: Link, transfer: Transfer) -> Taken
+fn transfer_taken(dl: bool, link: Link, transfer: Transfer) -> Option<Carried>
     ensures { result ≡ transfer_taken dl link transfer }
 {
     match link {
-        Link::Parallel(pairing) => Taken::Carries(by_width(dl, pairing, transfer)),
-        Link::Serial(_) => Taken::OtherLink,
+        Link::Parallel(pairing) => Some(by_width(dl, pairing, transfer)),
+        Link::Serial(_) => None,
     }
 }
 
@@ -53,40 +53,35 @@ fn by_width(dl: bool, pairing: Pairing, transfer: Transfer) -> Carried
 }
 
 // A bit is of the serial link.
-fn bit_taken(link: Link, bit: bool) -> Taken
+fn bit_taken(link: Link, bit: bool) -> Option<Carried>
     ensures { result ≡ bit_taken link bit }
 {
     match link {
-        Link::Parallel(_) => Taken::OtherLink,
+        Link::Parallel(_) => None,
         Link::Serial(receiver) => {
             let heard = hear(receiver, bit);
-            let received = heard.received;
-            let next = heard.receiver;
-            Taken::Carries(stays(deed_of(received), Link::Serial(next)))
+            Some(stays(deed_of(heard.received), Link::Serial(heard.receiver)))
         }
     }
 }
 
 // The byte that a bit completes, if it completes one.
-fn deed_of(received: Received) -> Deed
+fn deed_of(received: Option<Received>) -> Deed
     ensures { result ≡ deed_of received }
 {
     match received {
-        Received::Nothing => Deed::Nothing,
-        Received::Byte { register, byte } => Deed::Whole(writing(register, byte)),
+        None => Deed::Nothing,
+        Some(Received { register, byte }) => Deed::Whole(writing(register, byte)),
     }
 }
 
 // So is chip select low.
-fn select_taken(link: Link) -> Taken
+fn select_taken(link: Link) -> Option<Carried>
     ensures { result ≡ select_taken link }
 {
     match link {
-        Link::Parallel(_) => Taken::OtherLink,
-        Link::Serial(receiver) => Taken::Carries(stays(
-            Deed::Nothing,
-            Link::Serial(select_low(receiver)),
-        )),
+        Link::Parallel(_) => None,
+        Link::Serial(receiver) => Some(stays(Deed::Nothing, Link::Serial(select_low(receiver)))),
     }
 }
 

@@ -8,11 +8,11 @@ use controller::View;
 use glyph::Content;
 use picture::shown::{shown_word, word_content};
 
-// What a cell lacks: the glyph of a code of two bytes, or nothing.
+// A code of two bytes.
 #[derive(Clone, Copy)]
-pub enum Lacks {
-    Nothing,
-    Code { lead: u8, trail: u8 },
+pub struct Code {
+    pub lead: u8,
+    pub trail: u8,
 }
 
 // The first row of a band, the rows of the glass that show one line of text; 32 where the glass ends before it. Scrolling may cut the first
@@ -27,24 +27,23 @@ pub fn band_row(view: View, band: u32) -> u32
         return 0;
     }
     let row = 16 * band - view.scroll as u32 % 16;
-    if row < 32 { row } else { 32 }
+    row.min(32)
 }
 
-// What a cell of a row of the glass lacks, with a full font of `length` bytes.
-pub fn missing_at(text: &[u8; 128], view: View, row: u32, cell: u32, length: usize) -> Lacks
+// The code whose glyph a cell of a row of the glass lacks, if one, with a full font of `length` bytes.
+pub fn missing_at(text: &[u8; 128], view: View, row: u32, cell: u32, length: usize) -> Option<Code>
     requires { (row < 32) × (cell < 16) }
     ensures { result ≡ missing_at view length text.now row cell }
 {
     let word = shown_word(view, row, cell);
-    let numbering = view.numbering;
-    match word_content(text, numbering, word, length) {
+    match word_content(text, view.numbering, word, length) {
         Content::Missing => {
             let at = 2 * (word as usize);
-            Lacks::Code {
+            Some(Code {
                 lead: text[at],
                 trail: text[at + 1],
-            }
+            })
         }
-        _ => Lacks::Nothing,
+        _ => None,
     }
 }

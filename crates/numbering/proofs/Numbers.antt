@@ -1,4 +1,5 @@
 -- The numberings: a numbered code is read back from its number, so no two codes share one; and each number is a code's.
+use Rattle.std.proofs.Common.{None, Option, Some}
 use Prim.Native.Nat.{ℕ, ◌+◌, ◌*◌, ◌-◌, ◌/◌, ◌%◌, ◌≤◌, ◌<◌}
 use mathlib.Core.Bool.{not, ◌&&◌, true≢false}
 use mathlib.Core.Path.{◌≡◌, ap}
@@ -10,8 +11,6 @@ use Rattle.base.proofs.Choice.{either, either-told, by_test}
 use Rattle.base.proofs.Tests.{and_both}
 use Rattle.events.specs.declared.Numbering.{Numbering}
 use Rattle.events.specs.declared.Numbering.TheVariants.{By96, By160}
-use Rattle.numbering.specs.declared.Code.{Code}
-use Rattle.numbering.specs.declared.Code.TheVariants.{Unnumbered, Number}
 use Rattle.numbering.specs.Numbering.{number_of, number_count}
 
 -- the code of a number
@@ -29,20 +28,20 @@ pub record ReadBack (n : Numbering) (lead trail i : ℕ) : Type 0 where
   pub trail_is : trail ≡ trail_of n i
   pub below : i < number_count n
 
-same_number : {i j : ℕ} → Number i ≡ Number j → i ≡ j
+same_number : {i j : ℕ} → Some i ≡ Some j → i ≡ j
 same_number e = cc
 
 -- leads below A1h have no page
-pub unpaged : (n : Numbering) (lead trail : ℕ) → lead < 0xA1 → number_of n lead trail ≡ Unnumbered
+pub unpaged : (n : Numbering) (lead trail : ℕ) → lead < 0xA1 → number_of n lead trail ≡ None
 unfolding number_of
 unpaged By96 lead trail h = simp (lt-leb 0xA1 lead h)
 unpaged By160 lead trail h = simp (lt-leb 0xA1 lead h)
 
 -- the old numbering
-old_read_back : (lead trail i : ℕ) → trail < 256 → number_of By96 lead trail ≡ Number i → ReadBack By96 lead trail i
+old_read_back : (lead trail i : ℕ) → trail < 256 → number_of By96 lead trail ≡ Some i → ReadBack By96 lead trail i
 unfolding number_of
 old_read_back lead trail i h =
-    either-told (λ (c : Code). c ≡ Number i → ReadBack By96 lead trail i) (leb 0xA1 lead && (leb lead 0xF7 && leb 0xA0 trail))
+    either-told (λ (c : Option ℕ). c ≡ Some i → ReadBack By96 lead trail i) (leb 0xA1 lead && (leb lead 0xF7 && leb 0xA0 trail))
     (λ t e. let q = and_both (leb 0xA1 lead) (leb lead 0xF7 && leb 0xA0 trail) t in
     let r = and_both (leb lead 0xF7) (leb 0xA0 trail) q.1 in
     let a : 0xA1 ≤ lead = leb-true 0xA1 lead q.0 in
@@ -69,10 +68,10 @@ high_place lead trail i h a b d k =
       below = omega arith;
     }
 
-new_read_back : (lead trail i : ℕ) → trail < 256 → number_of By160 lead trail ≡ Number i → ReadBack By160 lead trail i
+new_read_back : (lead trail i : ℕ) → trail < 256 → number_of By160 lead trail ≡ Some i → ReadBack By160 lead trail i
 unfolding number_of
 new_read_back lead trail i h =
-    let Told : Code → Type 0 = λ c. c ≡ Number i → ReadBack By160 lead trail i in
+    let Told : Option ℕ → Type 0 = λ c. c ≡ Some i → ReadBack By160 lead trail i in
     either-told Told (not (leb 0xA1 lead && leb lead 0xD7)) (λ t e. absurd (true≢false cc))
     (λ t. let q = and_both (leb 0xA1 lead) (leb lead 0xD7) (not-false (leb 0xA1 lead && leb lead 0xD7) t) in
     let a : 0xA1 ≤ lead = leb-true 0xA1 lead q.0 in
@@ -84,12 +83,12 @@ new_read_back lead trail i h =
     (λ v e. high_place lead trail i h a b (leb-true 0xA0 trail v) (same_number e))
     (λ v e. absurd (true≢false cc))))
 
-pub read_back : (n : Numbering) (lead trail i : ℕ) → trail < 256 → number_of n lead trail ≡ Number i → ReadBack n lead trail i
+pub read_back : (n : Numbering) (lead trail i : ℕ) → trail < 256 → number_of n lead trail ≡ Some i → ReadBack n lead trail i
 read_back By96 lead trail i h e = old_read_back lead trail i h e
 read_back By160 lead trail i h e = new_read_back lead trail i h e
 
 -- each number's code has that number
-low_numbered : (i : ℕ) → i < 8800 → i % 160 < 64 → number_of By160 (0xA1 + i / 160) (0x40 + i % 160) ≡ Number i
+low_numbered : (i : ℕ) → i < 8800 → i % 160 < 64 → number_of By160 (0xA1 + i / 160) (0x40 + i % 160) ≡ Some i
 unfolding number_of
 low_numbered i h l =
     let k : (0xA1 + i / 160 - 0xA1) * 160 + (0x40 + i % 160 - 0x40) ≡ i = omega arith in
@@ -98,9 +97,9 @@ low_numbered i h l =
       le-leb (0xA1 + i / 160) 0xD7 (omega arith),
       le-leb 0x40 (0x40 + i % 160) (omega arith),
       le-leb (0x40 + i % 160) 0x7F (omega arith),
-    ) (ap Number k)
+    ) (ap Some k)
 
-high_numbered : (i : ℕ) → i < 8800 → 64 ≤ i % 160 → number_of By160 (0xA1 + i / 160) (0xA0 + (i % 160 - 64)) ≡ Number i
+high_numbered : (i : ℕ) → i < 8800 → 64 ≤ i % 160 → number_of By160 (0xA1 + i / 160) (0xA0 + (i % 160 - 64)) ≡ Some i
 unfolding number_of
 high_numbered i h l =
     let k : (0xA1 + i / 160 - 0xA1) * 160 + (64 + (0xA0 + (i % 160 - 64) - 0xA0)) ≡ i = omega arith in
@@ -110,7 +109,7 @@ high_numbered i h l =
       le-leb 0x40 (0xA0 + (i % 160 - 64)) (omega arith),
       lt-leb (0xA0 + (i % 160 - 64)) 0x7F (omega arith),
       le-leb 0xA0 (0xA0 + (i % 160 - 64)) (omega arith),
-    ) (ap Number k)
+    ) (ap Some k)
 
 pub lead-byte : (n : Numbering) (i : ℕ) → i < number_count n → lead_of n i < 256
 lead-byte By96 i h = omega arith
@@ -120,7 +119,7 @@ pub trail-byte : (n : Numbering) (i : ℕ) → trail_of n i < 256
 trail-byte By96 i = omega arith
 trail-byte By160 i = either (λ (t : ℕ). t < 256) (ltb (i % 160) 64) (omega arith) (omega arith)
 
-pub numbered : (n : Numbering) (i : ℕ) → i < number_count n → number_of n (lead_of n i) (trail_of n i) ≡ Number i
+pub numbered : (n : Numbering) (i : ℕ) → i < number_count n → number_of n (lead_of n i) (trail_of n i) ≡ Some i
 unfolding number_of
 numbered By96 i h =
     let k : (0xA1 + i / 96 - 0xA1) * 96 + (0xA0 + i % 96 - 0xA0) ≡ i = omega arith in
@@ -128,14 +127,14 @@ numbered By96 i h =
       le-leb 0xA1 (0xA1 + i / 96) (omega arith),
       le-leb (0xA1 + i / 96) 0xF7 (omega arith),
       le-leb 0xA0 (0xA0 + i % 96) (omega arith),
-    ) (ap Number k)
+    ) (ap Some k)
 numbered By160 i h =
-    either-told (λ (t : ℕ). number_of By160 (0xA1 + i / 160) t ≡ Number i) (ltb (i % 160) 64)
+    either-told (λ (t : ℕ). number_of By160 (0xA1 + i / 160) t ≡ Some i) (ltb (i % 160) 64)
     (λ t. low_numbered i h (ltb-true (i % 160) 64 t))
     (λ t. high_numbered i h (ltb-false (i % 160) 64 t))
 
 -- a code that has a number is none of the half glyphs
-pub numbered-lead : (n : Numbering) (lead trail i : ℕ) → number_of n lead trail ≡ Number i → 0xA1 ≤ lead
+pub numbered-lead : (n : Numbering) (lead trail i : ℕ) → number_of n lead trail ≡ Some i → 0xA1 ≤ lead
 numbered-lead n lead trail i e =
     by_test (leb 0xA1 lead) (leb-true 0xA1 lead)
     (λ t. let none = unpaged n lead trail (leb-false 0xA1 lead t) in absurd (true≢false cc))

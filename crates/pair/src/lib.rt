@@ -2,21 +2,21 @@
 // can be made on one side.
 #![tactic(auto)]
 
-use lent_pair::PairCounts;
+use lent_pair::Sides;
 use panel::Panel;
 
 mod methods;
 
+// Not `Sides`, which is of another crate: the calls are methods of this type.
 #[derive(Clone, Copy)]
 pub struct Pair {
     pub left: Panel,
     pub right: Panel,
 }
 
-// What a call answers: both panels as they are next, the refusal number, and the counts.
+// What an accepted call answers: both panels as they are next, and how many bytes of either frame were named.
 #[derive(Clone, Copy)]
 pub struct PairOutcome {
     pub pair: Pair,
-    pub number: u8,
-    pub counts: PairCounts,
+    pub counts: Sides<usize>,
 }

@@ -1,9 +1,10 @@
 -- A panel by value, and what a call hands on.
-use Rattle.std.specs.Prelude.{ℕ, List}
+use Rattle.std.specs.Prelude.{ℕ, List, Result, Ok, Err}
 use Rattle.controller.specs.Memories.{Memories, memories}
-use Rattle.calls.specs.declared.LentOutcome.{LentOutcome}
+use Rattle.refusals.specs.declared.Refusal.{Refusal}
+use Rattle.refusals.specs.Numbers.{refusal_number}
 use Rattle.calls.specs.State.{State, state}
-use Rattle.calls.specs.Calls.{Called}
+use Rattle.calls.specs.Calls.{Called, refused}
 use Rattle.panel.specs.declared.Panel.{Panel}
 use Rattle.panel.specs.declared.Outcome.{Outcome}
 
@@ -13,17 +14,12 @@ memories_of p = memories p.text p.glyph p.graphic
 abbrev pub state_of : Panel → State
 state_of p = state (memories_of p) p.control p.link
 
--- what a call by value leaves
-abbrev pub handed : Outcome → List ℕ → Called
-handed r frame =
-    record { state = state_of r.panel; number = r.number; reply = r.reply; count = r.count; frame = frame }
+-- what a call by value leaves: of an accepted one the panel that it answers; of a refused one the panel that the caller has
+abbrev pub handed : Panel → Result Outcome Refusal → List ℕ → Called
+handed p (Ok r) frame = record { state = state_of r.panel; number = 0; reply = r.reply; count = r.count; frame = frame }
+handed p (Err refusal) frame = refused (state_of p) frame (refusal_number refusal)
 
--- memories and the answer of a call on them, put together
-abbrev pub together : List ℕ → List ℕ → List ℕ → LentOutcome → Outcome
-together text glyph graphic a =
-    record {
-      panel = record { text = text; glyph = glyph; graphic = graphic; control = a.control; link = a.link };
-      number = a.number;
-      reply = a.reply;
-      count = a.count;
-    }
+-- the panel that there is then
+abbrev pub panel_after : Panel → Result Outcome Refusal → Panel
+panel_after p (Ok r) = r.panel
+panel_after p (Err refusal) = p

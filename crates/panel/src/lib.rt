@@ -1,5 +1,5 @@
 // The door: `Panel`, the whole state of document 01, with the calls of document 01. A panel goes in by value and is handed on.
-// The same calls on memories that a board keeps and lends are those of crate `calls`, with the same definition behind both.
+// The same calls on memories that a board keeps and lends are those of crate `lent_calls`, with the same definition behind both.
 #![tactic(auto)]
 
 use controller::Control;
@@ -7,7 +7,8 @@ use links::Link;
 
 mod methods;
 
-// The whole state of document 01.
+// The whole state of document 01. Its calls ask that it lies within its ranges, and hand on one that does; drawing asks nothing of it, and so
+// the ranges are no invariant of the type.
 #[derive(Clone, Copy)]
 pub struct Panel {
     pub text: [u8; 128],
@@ -17,11 +18,11 @@ pub struct Panel {
     pub link: Link,
 }
 
-// What a call answers: the next state, the refusal number, the reply and the number of bytes named.
+// What an accepted call answers: the panel as it is next, the reply and the number of bytes named. A refused one leaves the caller the panel
+// that it has.
 #[derive(Clone, Copy)]
 pub struct Outcome {
     pub panel: Panel,
-    pub number: u8,
     pub reply: u8,
     pub count: usize,
 }

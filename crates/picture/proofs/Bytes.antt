@@ -1,4 +1,5 @@
 -- Single bytes of the picture, as the code finds them.
+use Rattle.std.proofs.Common.{None, Option, Some}
 use Prim.Native.Nat.{ℕ, ◌+◌, ◌*◌, ◌/◌, ◌%◌, ◌<◌}
 use mathlib.Core.Path.{◌≡◌, refl}
 use mathlib.Core.Bool.{Bool, false, ◌&&◌}
@@ -8,8 +9,6 @@ use lib.ListN.{length, get_or}
 use lib.Dec.{eqb}
 use borrow.Author.Tests.{ne_eqb}
 use Rattle.events.specs.declared.Numbering.{Numbering}
-use Rattle.controller.specs.declared.Cell.{Cell}
-use Rattle.controller.specs.declared.Cell.TheVariants.{Nowhere, Word}
 use Rattle.controller.specs.declared.View.{View}
 use Rattle.controller.specs.Memories.{Memories, half}
 use Rattle.controller.specs.Glass.{shown_row, shown_word}
@@ -32,9 +31,9 @@ unfolding word_content
 word-inside n size text word = content_inside n _ _ size
 
 -- 64 is the word of no cell
-pub counter-here : (cell : Cell) (word : ℕ) → word < 64 → eqb word (counter_word cell) ≡ at_counter cell word
-counter-here Nowhere word h = ne_eqb word 64 (λ e. omega arith)
-counter-here (Word counter) word h = refl
+pub counter-here : (cell : Option ℕ) (word : ℕ) → word < 64 → eqb word (counter_word cell) ≡ at_counter cell word
+counter-here None word h = ne_eqb word 64 (λ e. omega arith)
+counter-here (Some counter) word h = refl
 
 graphic-column : (s column : ℕ) → 32 * s + column ≡ 32 * s + 2 * (column / 2) + half (right column)
 graphic-column s column = let h = half-right column in omega arith

@@ -1,3 +1,4 @@
 pub mod Picture
 pub mod Refusals
 pub mod Tiles
+pub mod Lent

@@ -1,21 +1,20 @@
 -- Document 01, "The picture": 32 rows of 32 bytes, bit 7 leftmost. Each byte is given by its row and column, in the document's order:
 -- glyph, cursor, blink, line reverse, graphic, display.
-use Rattle.std.specs.Prelude.{ℕ, ◌-◌, ◌/◌, ◌%◌, Bool, true, false, not, ◌&&◌, ◌||◌, List, length, get_or, eqb}
+use Rattle.std.specs.Prelude.{ℕ, ◌-◌, ◌/◌, ◌%◌, Bool, true, false, not, ◌&&◌, ◌||◌, List, length, get_or, eqb, None, Option, Some}
 use Rattle.std.specs.Int.Bits.{bit_xor}
 use Rattle.base.specs.Choice.{when◌then◌else◌}
 use Rattle.base.specs.Layout.{Layout, whole_on}
 use Rattle.events.specs.declared.Numbering.{Numbering}
 use Rattle.controller.specs.declared.View.{View}
-use Rattle.controller.specs.declared.Cell.{Cell}
-use Rattle.controller.specs.declared.Cell.TheVariants.{Nowhere, Word}
 use Rattle.controller.specs.declared.Control.{Control}
-use Rattle.controller.specs.Memories.{Memories, word_place, graphic_place}
+use Rattle.controller.specs.Memories.{Memories, memories, word_place, graphic_place}
 use Rattle.controller.specs.Named.{counter_cell}
 use Rattle.controller.specs.Glass.{shown_row, shown_word}
 use Rattle.glyph.specs.declared.Content.{Content}
 use Rattle.glyph.specs.Lookup.{content_of}
 use Rattle.glyph.specs.Dots.{dots_of}
 use Rattle.picture.specs.declared.Look.{Look}
+use Rattle.picture.specs.declared.Scene.{Scene}
 
 -- the lent fonts
 pub record Fonts : Type 0 where
@@ -66,9 +65,9 @@ unfoldable pub graphic_byte : List ℕ → View → ℕ → ℕ → ℕ
 graphic_byte graphic v row column = get_or graphic (graphic_place (shown_row v row) (column / 2) (right column)) 0
 
 -- at the counter's word, if target is text
-abbrev pub at_counter : Cell → ℕ → Bool
-at_counter Nowhere word = false
-at_counter (Word counter) word = eqb word counter
+abbrev pub at_counter : Option ℕ → ℕ → Bool
+at_counter None word = false
+at_counter (Some counter) word = eqb word counter
 
 -- sets
 abbrev pub filled : Bool → ℕ → ℕ
@@ -97,6 +96,16 @@ byte_over dots graphic look row column =
 -- and as the cell has them
 unfoldable pub byte_at : Fonts → Memories → Look → ℕ → ℕ → ℕ
 byte_at e m look row column = byte_over (cell_byte e m look.view row column) m.graphic look row column
+
+-- what the painters look at: the lent fonts, the memories, and what they show
+abbrev pub fonts_in : Scene → Fonts
+fonts_in s = fonts s.glyphs.half.now s.glyphs.full.now
+
+abbrev pub memories_in : Scene → Memories
+memories_in s = memories s.text.now s.glyphs.memory.now s.graphic.now
+
+abbrev pub shown_at : Scene → ℕ → ℕ → ℕ
+shown_at s = byte_at (fonts_in s) (memories_in s) s.look
 
 -- 32 rows of 32 bytes
 abbrev pub wide : Layout

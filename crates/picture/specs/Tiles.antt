@@ -1,22 +1,21 @@
 -- No sentence of document 01, but what the contracts of the code promise: the bytes of a cell's sixteen rows at once, its tile, and a line's
 -- sixteen tiles one after the other. proofs/Laid.antt shows that they are the bytes of the picture before the graphic.
-use Rattle.std.specs.Prelude.{ℕ, ◌+◌, ◌*◌, ◌-◌, ◌/◌, ◌%◌, Bool, true, false, ◌&&◌, ◌||◌, List, length, get_or, set, eqb, ltb}
+use Rattle.std.specs.Prelude.{ℕ, ◌+◌, ◌*◌, ◌-◌, ◌/◌, ◌%◌, Bool, true, false, ◌&&◌, List, length, get_or, set, eqb, ltb, None, Option, Some}
 use Rattle.base.specs.Choice.{when◌then◌else◌}
-use Rattle.base.specs.Painting.{painted, everywhere, between}
+use Rattle.base.specs.Painting.{painted}
 use Rattle.base.specs.Layout.{rows}
 use Rattle.events.specs.declared.Numbering.{Numbering}
-use Rattle.controller.specs.declared.Cell.{Cell}
-use Rattle.controller.specs.declared.Cell.TheVariants.{Nowhere, Word}
 use Rattle.controller.specs.Glass.{shown_row}
 use Rattle.glyph.specs.Tiles.{tile_dots}
 use Rattle.picture.specs.declared.Look.{Look}
+use Rattle.picture.specs.declared.Scene.{Scene}
 use Rattle.picture.specs.declared.TwoBytes.{TwoBytes}
-use Rattle.picture.specs.Picture.{Fonts, word_content, graphic_byte, at_counter, filled, inverted, overlaid}
+use Rattle.picture.specs.Picture.{Fonts, fonts_in, word_content, graphic_byte, at_counter, filled, inverted, overlaid}
 
 -- the counter's word, or 64, which no cell shows
-abbrev pub counter_word : Cell → ℕ
-counter_word Nowhere = 64
-counter_word (Word counter) = counter
+abbrev pub counter_word : Option ℕ → ℕ
+counter_word None = 64
+counter_word (Some counter) = counter
 
 -- byte j of the dots of a text word
 abbrev pub word_dots : Fonts → List ℕ → List ℕ → Numbering → ℕ → ℕ → ℕ
@@ -33,20 +32,23 @@ tile_byte e text glyph look word j =
     (inverted (at_counter look.counter word && look.blink)
     (filled (at_counter look.counter word && (look.cursor && eqb (j / 2) 15)) (word_dots e text glyph look.view.numbering word j)))
 
--- where the tile of the counter's word begins in its line
-abbrev pub counter_tile : ℕ → ℕ → ℕ
-counter_tile counter shift = 32 * ((counter % 16 + 256 - shift) % 16)
+-- a tile with its last row set, and one inverted; each if at all
+abbrev pub underlined : Bool → List ℕ → List ℕ
+underlined on = painted (λ j. on && eqb (j / 2) 15) (λ j. 0xFF)
 
--- the last row of the tile that begins at `at` set; and bytes inverted; each if at all
-abbrev pub underlined : Bool → ℕ → List ℕ → List ℕ
-underlined on at = painted (λ i. on && (eqb i (at + 30) || eqb i (at + 30 + 1))) (λ i. 0xFF)
-
-abbrev pub turned : Bool → ℕ → ℕ → List ℕ → List ℕ
-turned on from to tiles = painted (λ i. on && between from to everywhere i) (λ i. 0xFF - get_or tiles i 0) tiles
+abbrev pub turned : Bool → List ℕ → List ℕ
+turned on tile = painted (λ j. on) (λ j. 0xFF - get_or tile j 0) tile
 
 -- byte i of tiles that lie one after the other
 abbrev pub by_tile : (ℕ → ℕ → ℕ) → ℕ → ℕ
 by_tile byte i = byte (i / 32) (i % 32)
+
+-- byte j of a word's tile, and byte i of a line's, of what the painters look at
+abbrev pub tile_at : Scene → ℕ → ℕ → ℕ
+tile_at s word = tile_byte (fonts_in s) s.text.now s.glyphs.memory.now s.look word
+
+abbrev pub line_at : Scene → ℕ → ℕ → ℕ
+line_at s line = by_tile (λ cell j. tile_at s (line_word s.look.view.shift line cell) j)
 
 -- the byte that place i of a wide frame takes from row y of a line's tiles
 abbrev pub from_tiles : List ℕ → ℕ → ℕ → ℕ

@@ -1,13 +1,12 @@
-// What the painters look at, made once for a call.
+// What the controls say of the picture, made once for a call.
 ghost use Rattle.std.specs.Prelude.{◌≡◌};
 ghost use Rattle.picture.specs.Picture.{look_of};
 
 use crate::Look;
-use crate::shade::{both, off_or_standby};
 use controller::Control;
 use controller::named::counter_cell;
 
-pub fn look(control: Control, phase: bool) -> Look
+pub(crate) fn look(control: Control, phase: bool) -> Look
     ensures { result ≡ look_of phase control }
 {
     let view = control.view;
@@ -17,8 +16,8 @@ pub fn look(control: Control, phase: bool) -> Look
         view,
         counter,
         cursor: shown.cursor,
-        blink: both(shown.blink, phase),
+        blink: shown.blink && phase,
         graphic: control.function.g,
-        dark: off_or_standby(shown.display, control.standby),
+        dark: !shown.display || control.standby,
     }
 }

@@ -1,32 +1,16 @@
 // Cursor, blink, line reverse, graphic and display, in document 01's order.
-ghost use Rattle.std.specs.Prelude.{◌≡◌, ◌&&◌, ◌||◌, not};
+ghost use Rattle.std.specs.Prelude.{◌≡◌, ◌&&◌};
 ghost use Rattle.base.specs.Choice.{when◌then◌else◌};
 ghost use Rattle.picture.specs.Picture.{filled, inverted, overlaid};
 ghost use Rattle.picture.specs.Tiles.{counter_word};
 
-use controller::Cell;
-
-// Both flags, as a function, so that the caller has no branch to prove.
-pub fn both(a: bool, b: bool) -> bool
-    ensures { result ≡ (a && b) }
-{
-    if a { b } else { false }
-}
-
-// Whether nothing shows.
-pub(crate) fn off_or_standby(display: bool, standby: bool) -> bool
-    ensures { result ≡ (not display || standby) }
-{
-    if display { standby } else { true }
-}
-
 // The counter's word, or 64, which no cell shows.
-pub fn counter_word(cell: Cell) -> u32
+pub fn counter_word(cell: Option<u8>) -> u32
     ensures { result ≡ counter_word cell }
 {
     match cell {
-        Cell::Nowhere => 64,
-        Cell::Word(word) => word as u32,
+        None => 64,
+        Some(word) => u32::from(word),
     }
 }
 
@@ -35,6 +19,13 @@ fn mask(on: bool) -> u8
     ensures { result ≡ (when on then 0xFF else 0x00) }
 {
     if on { 0xFF } else { 0x00 }
+}
+
+#[tactic(auto, using(crate::proofs::Masks::mask_fills))]
+fn fill(on: bool, byte: u8) -> u8
+    ensures { result ≡ filled on byte }
+{
+    byte | mask(on)
 }
 
 pub(crate) fn invert(on: bool, byte: u8) -> u8
@@ -53,7 +44,7 @@ pub(crate) fn overlay(on: bool, dots: u8, byte: u8) -> u8
 pub(crate) fn mark(here: bool, cursor: bool, blink: bool, byte: u8) -> u8
     ensures { result ≡ inverted (here && blink) (filled (here && cursor) byte) }
 {
-    (byte | mask(both(here, cursor))) ^ mask(both(here, blink))
+    invert(here && blink, fill(here && cursor, byte))
 }
 
 // A byte as it shows: with the graphic over it, or nothing in the dark.

@@ -1,7 +1,8 @@
 -- What an accepted record answers, of what its calls left.
-use Prim.Native.Nat.{ℕ}
 use Rattle.calls.specs.Calls.{Called}
-use Rattle.printed.specs.Text.{RecordAnswer, record_answer}
+use Rattle.capture.specs.declared.kind.Kind.{Kind}
+use Rattle.printed.specs.declared.answer.RecordAnswer.{RecordAnswer}
+use Rattle.printed.specs.Text.{record_answer}
 
-abbrev pub answer_from : ℕ → Called → RecordAnswer
+abbrev pub answer_from : Kind → Called → RecordAnswer
 answer_from kind k = record_answer kind k.reply k.count

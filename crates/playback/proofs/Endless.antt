@@ -9,13 +9,13 @@ use Rattle.base.proofs.Choice.{either}
 use Rattle.picture.specs.Picture.{Seen}
 use Rattle.picture.specs.Refusals.{refusal_of}
 use Rattle.calls.specs.State.{State}
-use Rattle.capture.specs.Record.{number}
-use Rattle.reader.specs.Capture.{Recorded}
+use Rattle.refusals.specs.Numbers.{answer_number}
+use Rattle.capture.specs.declared.record.Record.{Record}
 use Rattle.records.specs.Records.{record_called}
 use Rattle.playback.specs.Replay.{Replayed, endless, records_replayed, read_by, replayed}
 
 module _ (e : Seen) where
-  records-not-full : (last : ℕ) (rs : List Recorded) (s : State) (f : List ℕ) (n : ℕ) → (records_replayed e last endless rs s f n).ending.full ≡ false
+  records-not-full : (last : ℕ) (rs : List Record) (s : State) (f : List ℕ) (n : ℕ) → (records_replayed e last endless rs s f n).ending.full ≡ false
   unfolding records_replayed
   records-not-full last [] s f n = refl
   records-not-full last (r ∷ rs) s f n =
@@ -25,5 +25,5 @@ module _ (e : Seen) where
   unfolding replayed
   not_full c s f n =
       either (λ (x : Replayed). x.ending.full ≡ false) (eqb (refusal_of (length f) (length e.fonts.half) (length e.fonts.full)) 0)
-      (records-not-full (number (read_by s c).stop) (read_by s c).records s f n)
+      (records-not-full (answer_number (read_by s c).stop) (read_by s c).records s f n)
       refl

@@ -9,21 +9,26 @@ use native.Mathlib.Omega.{arith}
 use borrow.Author.Tests.{leb-true, ltb-true, eq-eqb, ne_eqb}
 use lib.Dec.{leb, ltb}
 use lib.ListN.{length, drop, length-drop, length-append}
-use lib.Seq.{sets, length-take-le}
+use lib.Seq.{sets}
 use Rattle.base.proofs.Lists.{sets_append}
 use Rattle.base.proofs.Tests.{and_both}
 use Rattle.picture.specs.Picture.{Seen}
-use Rattle.picture.specs.Refusals.{refusal_of}
+use Rattle.picture.specs.Refusals.{lent_refusal}
 use Rattle.calls.specs.State.{State, Valid}
 use Rattle.calls.specs.Calls.{Called}
-use Rattle.capture.specs.declared.Answer.{Answer}
-use Rattle.capture.specs.declared.Answer.TheVariants.{Record}
-use Rattle.capture.specs.Record.{number, passed, taken_with}
-use Rattle.reader.specs.Capture.{Contents, read_at}
-use Rattle.capture.proofs.Answers.{record_within}
+use Rattle.std.proofs.Common.{Some, Ok}
+use Rattle.refusals.specs.declared.Refusal.{Refusal}
+use Rattle.refusals.specs.Numbers.{refusal_number, answer_number}
+use Rattle.capture.specs.declared.kind.Kind.TheVariants.{InstructionWrite}
+use Rattle.capture.specs.declared.record.Record.{Record}
+use Rattle.capture.specs.Record.{Answer, passed, taken_with}
+use Rattle.reader.specs.declared.Step.{Step}
+use Rattle.reader.specs.Capture.{Contents, read_at, step_at}
+use Rattle.capture.proofs.Answers.{record_within, refusal_numbered}
 use Rattle.reader.proofs.Contents.{contents_at_record, contents-at-stop}
 use Rattle.capture.proofs.Taken.{taken_record}
-use Rattle.printed.specs.Text.{RecordAnswer, record_answer, line, lines, Put, Counts, longest_line, has_room}
+use Rattle.printed.specs.declared.answer.RecordAnswer.{RecordAnswer}
+use Rattle.printed.specs.Text.{record_answer, line, lines, Put, longest_line, has_room}
 use Rattle.printed.proofs.Writing.{put_length, line-length, count_digits}
 use Rattle.records.specs.Records.{record_called}
 use Rattle.playback.specs.Replay.{Replayed, halted, after_answers, Room, room_of, room_for, room_behind, records_replayed, read_by, replayed}
@@ -86,17 +91,17 @@ module _ (e : Seen) (room : Room) (c : List ℕ) (s : State) (f : List ℕ) (n a
   abbrev onward : Replayed
   onward = contents_replayed e room (read_by s (drop at c)) s f n
 
-  module _ {kind value : ℕ} (k : Called) (h : taken_at s c at ≡ Record kind value) (is : k ≡ record_called e kind value s f) where
+  module _ {r : Record} (k : Called) (h : taken_at s c at ≡ Ok (Some r)) (is : k ≡ record_called e r.kind r.value s f) where
     -- an accepted record answers, and the rest is replayed on what it left
     replayed_record :
         room_for room n ≡ true
         → k.number ≡ 0
         → onward
-        ≡ after_answers (answer_from kind k ∷ []) (contents_replayed e (room_behind room (line n (answer_from kind k))) (read_by k.state (drop (at + 4) c)) k.state k.frame (n + 1))
+        ≡ after_answers (answer_from r.kind k ∷ []) (contents_replayed e (room_behind room (line n (answer_from r.kind k))) (read_by k.state (drop (at + 4) c)) k.state k.frame (n + 1))
     unfolding records_replayed
     replayed_record space z =
         let timed : k.state.control.time.timed ≡ s.control.time.timed =
-        ap (λ (x : Called). x.state.control.time.timed) is ∙ record_timed e kind value s f in
+        ap (λ (x : Called). x.state.control.time.timed) is ∙ record_timed e r.kind r.value s f in
         ap (λ (x : Contents). contents_replayed e room x s f n) (contents_at_record s.control.time.timed c at h)
         ∙ rw (space, ← is, eq-eqb k.number 0 z, timed)
 
@@ -105,11 +110,11 @@ module _ (e : Seen) (room : Room) (c : List ℕ) (s : State) (f : List ℕ) (n a
     replayed-refused space z =
         ap (λ (x : Contents). contents_replayed e room x s f n) (contents_at_record s.control.time.timed c at h) ∙ rw (space, ← is, ne_eqb k.number 0 z)
 
-  replayed_unroomed : {kind value : ℕ} → taken_at s c at ≡ Record kind value → room_for room n ≡ false → onward ≡ halted s f n 0 true
+  replayed_unroomed : {r : Record} → taken_at s c at ≡ Ok (Some r) → room_for room n ≡ false → onward ≡ halted s f n 0 true
   unfolding records_replayed
   replayed_unroomed h space = ap (λ (x : Contents). contents_replayed e room x s f n) (contents_at_record s.control.time.timed c at h) ∙ rw space
 
-  replayed-stop : passed (taken_at s c at) ≡ 0 → onward ≡ halted s f n (number (taken_at s c at)) false
+  replayed-stop : passed (taken_at s c at) ≡ 0 → onward ≡ halted s f n (answer_number (taken_at s c at)) false
   unfolding records_replayed
   replayed-stop h = ap (λ (x : Contents). contents_replayed e room x s f n) (contents-at-stop s.control.time.timed c at h)
 
@@ -121,19 +126,21 @@ module _ (e : Seen) (telling : Bool) (c : List ℕ) (s₀ : State) (f₀ : List 
   abbrev pub Leaves : Told → Type 0
   Leaves r = r ≡ told telling n₀ text₀ whole
 
-  module _ (m : ℕ) (is : m ≡ refusal_of (length f₀) (length e.fonts.half) (length e.fonts.full)) where
-    none_told : told_by telling (lines n₀ []) ≡ []
-    unfolding lines
-    none_told = by telling
-      where
-        by : (t : Bool) → told_by t (lines n₀ []) ≡ []
-        by true = refl
-        by false = refl
+  none_told : told_by telling (lines n₀ []) ≡ []
+  unfolding lines
+  none_told = by telling
+    where
+      by : (t : Bool) → told_by t (lines n₀ []) ≡ []
+      by true = refl
+      by false = refl
 
-    -- refusals 1, 2, 3 before anything is read
-    pub turned_away : (m ≡ 0 → ⊥) → Leaves (record { ending = (halted s₀ f₀ n₀ m false).ending; reply = 0; count = 0; text = text₀; filled = 0 })
-    unfolding replayed last_or
-    turned_away h = rw (← is, ne_eqb m 0 h, none_told)
+  -- refusals 1, 2, 3 before anything is read
+  pub turned_away :
+      (why : Refusal)
+      → refusal_number why ≡ lent_refusal e f₀
+      → Leaves (record { ending = (halted s₀ f₀ n₀ (refusal_number why) false).ending; reply = 0; count = 0; text = text₀; filled = 0 })
+  unfolding replayed last_or
+  turned_away why is = rw (← is, refusal_numbered why, none_told)
 
   pub record Going (s : State) (f : List ℕ) (n at reply count : ℕ) (text : List ℕ) (filled : ℕ) : Type 0 where
     pub within : at ≤ length c
@@ -142,21 +149,16 @@ module _ (e : Seen) (telling : Bool) (c : List ℕ) (s₀ : State) (f₀ : List 
     pub framed : length f ≡ length f₀
     pub before : List RecordAnswer
     pub numbered : n ≡ n₀ + length before
-    pub replies : (last_or (record_answer 0 0 0) before).reply ≡ reply
-    pub counts : (last_or (record_answer 0 0 0) before).count ≡ count
+    pub replies : (last_or (record_answer InstructionWrite 0 0) before).reply ≡ reply
+    pub counts : (last_or (record_answer InstructionWrite 0 0) before).count ≡ count
     pub stands : text ≡ sets text₀ 0 (told_by telling (lines n₀ before))
     pub follows : filled ≡ length (told_by telling (lines n₀ before))
     pub inside : filled ≤ length text
     pub same : whole ≡ after_answers before (contents_replayed e (room_of telling (length text - filled)) (read_by s (drop at c)) s f n)
 
-  pub begins :
-      (m : ℕ)
-      → m ≡ refusal_of (length f₀) (length e.fonts.half) (length e.fonts.full)
-      → m ≡ 0
-      → Valid s₀
-      → Going s₀ f₀ n₀ 0 0 0 text₀ 0
+  pub begins : 0 ≡ lent_refusal e f₀ → Valid s₀ → Going s₀ f₀ n₀ 0 0 0 text₀ 0
   unfolding replayed last_or
-  begins m is h v = record {
+  begins is v = record {
     within = omega arith;
     placed = omega arith;
     valid = v;
@@ -165,25 +167,13 @@ module _ (e : Seen) (telling : Bool) (c : List ℕ) (s₀ : State) (f₀ : List 
     numbered = omega arith;
     replies = refl;
     counts = refl;
-    stands = rw (none_told m is);
-    follows = rw (none_told m is);
+    stands = rw none_told;
+    follows = rw none_told;
     inside = omega arith;
-    same = let z : length text₀ - 0 ≡ length text₀ = omega arith in rw (z, ← is, eq-eqb m 0 h);
+    same = let z : length text₀ - 0 ≡ length text₀ = omega arith in rw (z, ← is);
   }
 
   module _ {s : State} {f : List ℕ} {n at reply count : ℕ} {text : List ℕ} {filled : ℕ} (g : Going s f n at reply count text filled) where
-    stood : {kind value : ℕ} → taken_at s c at ≡ Record kind value → read_at c at ≡ Record kind value
-    stood h = taken_record s.control.time.timed (read_at c at) h
-
-    pub long : {kind value : ℕ} → taken_at s c at ≡ Record kind value → at + 4 ≤ length c
-    long h = omega (arith, record_within (drop at c) (stood h), length-drop at c, g.within)
-
-    pub further : {kind value at' : ℕ} → taken_at s c at ≡ Record kind value → at' ≡ at + passed (read_at c at) → at' ≡ at + 4
-    further h next = next ∙ ap (λ (a : Answer). at + passed a) (stood h)
-
-    pub tells_so_far : Counts filled text
-    tells_so_far = (g.inside, sym (length-take-le filled text g.inside))
-
     -- where nothing more is replayed, the answers so far are all
     ended : (r : Replayed) → r.answers ≡ [] → whole ≡ after_answers g.before r
         → Leaves (record { ending = r.ending; reply = reply; count = count; text = text; filled = filled })
@@ -193,90 +183,115 @@ module _ (e : Seen) (telling : Bool) (c : List ℕ) (s₀ : State) (f₀ : List 
         ∙ ap (λ (l : List RecordAnswer). record { answers = l; ending = r.ending }) (append-nil g.before) in
         rw (all, g.replies, g.counts, ← g.stands, ← g.follows)
 
-    -- what is no record
-    pub stops :
-        (m : ℕ)
-        → passed (taken_at s c at) ≡ 0
-        → m ≡ number (taken_at s c at)
-        → Leaves (record { ending = (halted s f n m false).ending; reply = reply; count = count; text = text; filled = filled })
-    stops m h is = rw is (ended (halted s f n (number (taken_at s c at)) false) refl (g.same ∙ ap (after_answers g.before) (replayed-stop e _ c s f n at h)))
+    -- by what was read there
+    module _ (step : Step) (read : step ≡ step_at c at) where
+      taken_here : (a : Answer) → a ≡ taken_with s.control.time.timed step.answer → taken_at s c at ≡ a
+      taken_here a taken = sym (taken ∙ ap (λ (x : Step). taken_with s.control.time.timed x.answer) read)
 
-    -- a record whose line might have no room
-    pub is-full :
-        {kind value : ℕ}
-        → taken_at s c at ≡ Record kind value
-        → room_for (room_of telling (length text - filled)) n ≡ false
-        → Leaves (record { ending = (halted s f n 0 true).ending; reply = reply; count = count; text = text; filled = filled })
-    is-full h space = ended (halted s f n 0 true) refl (g.same ∙ ap (after_answers g.before) (replayed_unroomed e _ c s f n at h space))
+      -- what is no record
+      pub stops :
+          (a : Answer)
+          → a ≡ taken_with s.control.time.timed step.answer
+          → passed a ≡ 0
+          → Leaves (record { ending = (halted s f n (answer_number a) false).ending; reply = reply; count = count; text = text; filled = filled })
+      stops a taken none =
+          let here = taken_here a taken in
+          rw (← here)
+          (ended (halted s f n (answer_number (taken_at s c at)) false) refl
+          (g.same ∙ ap (after_answers g.before) (replayed-stop e _ c s f n at (ap passed here ∙ none))))
 
-    module _
-        {kind value : ℕ} (k : Called)
-        (h : taken_at s c at ≡ Record kind value)
-        (is : k ≡ record_called e kind value s f)
-        (space : room_for (room_of telling (length text - filled)) n ≡ true) where
-      pub room_for-line : filled + length (told_by telling (line n (answer_from kind k))) ≤ length text
-      room_for-line =
-          omega (
-            arith,
-            g.inside,
-            line-fits (length text - filled) n telling (answer_from kind k) space (omega (arith, ap (λ (x : Called). x.count) is, record_count e kind value s f)),
-          )
+      module _
+          {a : Answer} {r : Record}
+          (taken : a ≡ taken_with s.control.time.timed step.answer)
+          (is : a ≡ Ok (Some r)) where
+        here : taken_at s c at ≡ Ok (Some r)
+        here = taken_here a taken ∙ is
 
-      -- the place can be counted on: by the room, or by the capture's length
-      pub countable : (telling ≡ false → n₀ ≡ 0) → length c < 2 ^ 64 → n + 1 < 2 ^ 64
-      countable zero few =
-          omega (arith, counted-on (length text - filled) n telling space (λ t. omega (arith, zero t, g.placed, long h)))
+        stood : read_at c at ≡ Ok (Some r)
+        stood = taken_record s.control.time.timed (read_at c at) here
 
-      turned :
-          {left : List ℕ} {next : ℕ}
-          → k.number ≡ 0
-          → Valid k.state
-          → Put text filled (told_by telling (line n (answer_from kind k))) left next
-          → Going k.state k.frame (n + 1) (at + 4) k.reply k.count left next
-      turned {left} {next} z v p =
-          let a = answer_from kind k in
-          let more = last-of-more (record_answer 0 0 0) g.before a in
-          let told = one_told telling n₀ g.before a ∙ ap (λ (i : ℕ). told_by telling (lines n₀ g.before) ++ told_by telling (line i a)) (sym g.numbered) in
-          let rest : length left - next ≡ length text - filled - length (told_by telling (line n (answer_from kind k))) =
-          omega (arith, put_length p, p.follows) in
-          record {
-            within = long h;
-            placed = omega (arith, g.placed);
-            valid = v;
-            framed = ap (λ (x : Called). length x.frame) is ∙ record_length e kind value s f ∙ g.framed;
-            before = g.before ++ (a ∷ []);
-            numbered = omega (arith, g.numbered, length-append g.before (a ∷ []));
-            replies = ap (λ (x : RecordAnswer). x.reply) more;
-            counts = ap (λ (x : RecordAnswer). x.count) more;
-            stands =
-                p.stands
-                ∙ ap (λ (i : ℕ). sets text i (told_by telling (line n (answer_from kind k)))) (g.follows ∙ sym (zero-add _))
-                ∙ ap (λ (l : List ℕ). sets l (0 + length (told_by telling (lines n₀ g.before))) (told_by telling (line n (answer_from kind k)))) g.stands
-                ∙ sym (sets_append text₀ 0 (told_by telling (lines n₀ g.before)) (told_by telling (line n (answer_from kind k))))
-                ∙ ap (sets text₀ 0) (sym told);
-            follows = p.follows ∙ omega (arith, g.follows, length-append (told_by telling (lines n₀ g.before)) (told_by telling (line n (answer_from kind k)))) ∙ ap length (sym told);
-            inside = omega (arith, p.follows, put_length p, room_for-line);
-            same =
-                g.same
-                ∙ ap (after_answers g.before) (replayed_record e _ c s f n at k h is space z)
-                ∙ one_more g.before a _
-                ∙ ap (λ (r : Room). after_answers (g.before ++ (a ∷ [])) (contents_replayed e r (read_by k.state (drop (at + 4) c)) k.state k.frame (n + 1)))
-                (sym (ap (room_of telling) rest ∙ room_behind_lem telling (length text - filled) (line n (answer_from kind k))));
-          }
+        long : at + 4 ≤ length c
+        long = omega (arith, record_within (drop at c) stood, length-drop at c, g.within)
 
-      pub turns :
-          {left : List ℕ} {next at' : ℕ}
-          → at' ≡ at + passed (read_at c at)
-          → k.number ≡ 0
-          → Valid k.state
-          → Put text filled (told_by telling (line n (answer_from kind k))) left next
-          → Going k.state k.frame (n + 1) at' k.reply k.count left next
-      turns moved z v p = rw (further h moved) (turned z v p)
+        further : step.next ≡ at + 4
+        further = ap (λ (x : Step). x.next) read ∙ ap (λ (a : Answer). at + passed a) stood
 
-      -- a record that is refused has no effect
-      pub refuses :
-          (k.number ≡ 0 → ⊥)
-          → Leaves (record { ending = (halted s k.frame n k.number false).ending; reply = reply; count = count; text = text; filled = filled })
-      refuses z =
-          rw (record_frame e kind value s f k is z)
-          (ended (halted s f n k.number false) refl (g.same ∙ ap (after_answers g.before) (replayed-refused e _ c s f n at k h is space z)))
+        -- less is left
+        pub nearer : length c - step.next < length c - at
+        nearer = omega (arith, further, long)
+
+        -- a record whose line might have no room
+        pub stops-full :
+            room_for (room_of telling (length text - filled)) n ≡ false
+            → Leaves (record { ending = (halted s f n 0 true).ending; reply = reply; count = count; text = text; filled = filled })
+        stops-full space = ended (halted s f n 0 true) refl (g.same ∙ ap (after_answers g.before) (replayed_unroomed e _ c s f n at here space))
+
+        module _
+            (k : Called)
+            (does : k ≡ record_called e r.kind r.value s f)
+            (space : room_for (room_of telling (length text - filled)) n ≡ true) where
+          pub room_for-line : filled + length (told_by telling (line n (answer_from r.kind k))) ≤ length text
+          room_for-line =
+              omega (
+                arith,
+                g.inside,
+                line-fits (length text - filled) n telling (answer_from r.kind k) space (omega (arith, ap (λ (x : Called). x.count) does, record_count e r.kind r.value s f)),
+              )
+
+          -- the place can be counted on: by the room, or by the capture's length
+          pub countable : (telling ≡ false → n₀ ≡ 0) → length c < 2 ^ 64 → n + 1 < 2 ^ 64
+          countable zero few =
+              omega (arith, counted-on (length text - filled) n telling space (λ t. omega (arith, zero t, g.placed, long)))
+
+          turned :
+              {left : List ℕ} {next : ℕ}
+              → k.number ≡ 0
+              → Valid k.state
+              → Put text filled (told_by telling (line n (answer_from r.kind k))) left next
+              → Going k.state k.frame (n + 1) (at + 4) k.reply k.count left next
+          turned {left} {next} z v p =
+              let a = answer_from r.kind k in
+              let more = last-of-more (record_answer InstructionWrite 0 0) g.before a in
+              let told = one_told telling n₀ g.before a ∙ ap (λ (i : ℕ). told_by telling (lines n₀ g.before) ++ told_by telling (line i a)) (sym g.numbered) in
+              let rest : length left - next ≡ length text - filled - length (told_by telling (line n (answer_from r.kind k))) =
+              omega (arith, put_length p, p.follows) in
+              record {
+                within = long;
+                placed = omega (arith, g.placed);
+                valid = v;
+                framed = ap (λ (x : Called). length x.frame) does ∙ record_length e r.kind r.value s f ∙ g.framed;
+                before = g.before ++ (a ∷ []);
+                numbered = omega (arith, g.numbered, length-append g.before (a ∷ []));
+                replies = ap (λ (x : RecordAnswer). x.reply) more;
+                counts = ap (λ (x : RecordAnswer). x.count) more;
+                stands =
+                    p.stands
+                    ∙ ap (λ (i : ℕ). sets text i (told_by telling (line n (answer_from r.kind k)))) (g.follows ∙ sym (zero-add _))
+                    ∙ ap (λ (l : List ℕ). sets l (0 + length (told_by telling (lines n₀ g.before))) (told_by telling (line n (answer_from r.kind k)))) g.stands
+                    ∙ sym (sets_append text₀ 0 (told_by telling (lines n₀ g.before)) (told_by telling (line n (answer_from r.kind k))))
+                    ∙ ap (sets text₀ 0) (sym told);
+                follows = p.follows ∙ omega (arith, g.follows, length-append (told_by telling (lines n₀ g.before)) (told_by telling (line n (answer_from r.kind k)))) ∙ ap length (sym told);
+                inside = omega (arith, p.follows, put_length p, room_for-line);
+                same =
+                    g.same
+                    ∙ ap (after_answers g.before) (replayed_record e _ c s f n at k here does space z)
+                    ∙ one_more g.before a _
+                    ∙ ap (λ (x : Room). after_answers (g.before ++ (a ∷ [])) (contents_replayed e x (read_by k.state (drop (at + 4) c)) k.state k.frame (n + 1)))
+                    (sym (ap (room_of telling) rest ∙ room_behind_lem telling (length text - filled) (line n (answer_from r.kind k))));
+              }
+
+          pub turns :
+              {left : List ℕ} {next : ℕ}
+              → k.number ≡ 0
+              → Valid k.state
+              → Put text filled (told_by telling (line n (answer_from r.kind k))) left next
+              → Going k.state k.frame (n + 1) step.next k.reply k.count left next
+          turns z v p = rw further (turned z v p)
+
+          -- a record that is refused has no effect
+          pub refuses :
+              (k.number ≡ 0 → ⊥)
+              → Leaves (record { ending = (halted s k.frame n k.number false).ending; reply = reply; count = count; text = text; filled = filled })
+          refuses z =
+              rw (record_frame e r.kind r.value s f k does z)
+              (ended (halted s f n k.number false) refl (g.same ∙ ap (after_answers g.before) (replayed-refused e _ c s f n at k here does space z)))

@@ -14,13 +14,16 @@ use Rattle.picture.specs.Picture.{Seen}
 use Rattle.picture.specs.Refusals.{refusal_of}
 use Rattle.calls.specs.State.{State}
 use Rattle.calls.specs.Calls.{Called}
-use Rattle.capture.specs.declared.Answer.{Answer}
-use Rattle.capture.specs.declared.Answer.TheVariants.{Record, Refused, End}
-use Rattle.capture.specs.Record.{number}
-use Rattle.reader.specs.Capture.{Recorded, Contents}
+use Rattle.std.proofs.Common.{Some, None, Ok, Err}
+use Rattle.refusals.specs.Numbers.{refusal_number, answer_number}
+use Rattle.capture.specs.declared.record.Record.{Record}
+use Rattle.capture.specs.Record.{Answer}
+use Rattle.capture.proofs.Answers.{refusal_numbered}
+use Rattle.reader.specs.Capture.{Contents}
 use Rattle.reader.proofs.Contents.{joined_at, contents-of-parts, Stops, contents-stop}
 use Rattle.records.specs.Records.{record_called}
-use Rattle.printed.specs.Text.{RecordAnswer, line, lines}
+use Rattle.printed.specs.declared.answer.RecordAnswer.{RecordAnswer}
+use Rattle.printed.specs.Text.{line, lines}
 use Rattle.playback.specs.Replay.{Replayed, Room, endless, bytes, room_for, room_behind, ended, halted, after_answers, records_replayed, read_by, replayed}
 use Rattle.playback.specs.Transcript.{told, transcribed}
 use Rattle.playback.specs.Statements.{gone_on, PartsReplayAsWhole, Joins, PartsTranscribeAsWhole}
@@ -38,7 +41,7 @@ behind-both (bytes rest) a b = ap bytes (omega (arith, length-append a b))
 
 -- what was read of a capture, replayed
 abbrev pub contents_replayed : Seen → Room → Contents → State → List ℕ → ℕ → Replayed
-contents_replayed e room c s f n = records_replayed e (number c.stop) room c.records s f n
+contents_replayed e room c s f n = records_replayed e (answer_number c.stop) room c.records s f n
 
 module _ (e : Seen) where
   -- a replay that came to its end goes on with more records
@@ -67,8 +70,8 @@ module _ (e : Seen) where
       by false = refl
 
   records-joined :
-      (room : Room) (xs : List Recorded) (c : Contents) (s : State) (f : List ℕ) (n : ℕ)
-      → records_replayed e (number c.stop) room (xs ++ c.records) s f n ≡ gone_over room n c (records_replayed e 0 room xs s f n)
+      (room : Room) (xs : List Record) (c : Contents) (s : State) (f : List ℕ) (n : ℕ)
+      → records_replayed e (answer_number c.stop) room (xs ++ c.records) s f n ≡ gone_over room n c (records_replayed e 0 room xs s f n)
   unfolding records_replayed lines
   records-joined room [] c s f n = ap (λ (left : Room). contents_replayed e left c s f n) (sym (behind-none room))
   records-joined room (r ∷ xs) c s f n =
@@ -86,10 +89,10 @@ module _ (e : Seen) where
       by :
           (q t : Bool)
           → eqb k.number 0 ≡ t
-          → records_replayed e (number c.stop) left (xs ++ c.records) k.state k.frame (n + 1)
+          → records_replayed e (answer_number c.stop) left (xs ++ c.records) k.state k.frame (n + 1)
           ≡ gone_over left (n + 1) c (records_replayed e 0 left xs k.state k.frame (n + 1))
           → (when not q then halted s f n 0 true
-          else (when t then after_answers (a ∷ []) (records_replayed e (number c.stop) left (xs ++ c.records) k.state k.frame (n + 1)) else halted s f n k.number false))
+          else (when t then after_answers (a ∷ []) (records_replayed e (answer_number c.stop) left (xs ++ c.records) k.state k.frame (n + 1)) else halted s f n k.number false))
           ≡ gone_over room n c
           (when not q then halted s f n 0 true
           else (when t then after_answers (a ∷ []) (records_replayed e 0 left xs k.state k.frame (n + 1)) else halted s f n k.number false))
@@ -99,7 +102,7 @@ module _ (e : Seen) where
 
   -- a replay of what ends in a refusal did not come to its end
   stays-refused :
-      (last : ℕ) → eqb last 0 ≡ false → (room : Room) (xs : List Recorded) (s : State) (f : List ℕ) (n : ℕ)
+      (last : ℕ) → eqb last 0 ≡ false → (room : Room) (xs : List Record) (s : State) (f : List ℕ) (n : ℕ)
       → ended (records_replayed e last room xs s f n).ending ≡ false
   unfolding records_replayed
   stays-refused last h room [] s f n = rw h
@@ -111,15 +114,15 @@ module _ (e : Seen) where
       (λ t. rw t))
 
   replayed-by-stop :
-      (room : Room) (xs : List Recorded) (a : Answer) (c : Contents) (s : State) (f : List ℕ) (n : ℕ)
+      (room : Room) (xs : List Record) (a : Answer) (c : Contents) (s : State) (f : List ℕ) (n : ℕ)
       → Stops a
-      → contents_replayed e room (joined_at a (record { records = xs; stop = a }) c) s f n ≡ gone_over room n c (records_replayed e (number a) room xs s f n)
-  replayed-by-stop room xs (Record kind value) c s f n h = absurd h
-  replayed-by-stop room xs End c s f n h = records-joined room xs c s f n
-  replayed-by-stop room xs (Refused m) c s f n h = rw (stays-refused m h room xs s f n)
+      → contents_replayed e room (joined_at a (record { records = xs; stop = a }) c) s f n ≡ gone_over room n c (records_replayed e (answer_number a) room xs s f n)
+  replayed-by-stop room xs (Ok (Some r)) c s f n h = absurd h
+  replayed-by-stop room xs (Ok None) c s f n h = records-joined room xs c s f n
+  replayed-by-stop room xs (Err refusal) c s f n h = rw (stays-refused (refusal_number refusal) (refusal_numbered refusal) room xs s f n)
 
   replayed-length :
-      (last : ℕ) (room : Room) (xs : List Recorded) (s : State) (f : List ℕ) (n : ℕ)
+      (last : ℕ) (room : Room) (xs : List Record) (s : State) (f : List ℕ) (n : ℕ)
       → length (records_replayed e last room xs s f n).ending.frame ≡ length f
   unfolding records_replayed
   replayed-length last room [] s f n = refl
@@ -131,7 +134,7 @@ module _ (e : Seen) where
       refl)
 
   replayed_timed :
-      (last : ℕ) (room : Room) (xs : List Recorded) (s : State) (f : List ℕ) (n : ℕ)
+      (last : ℕ) (room : Room) (xs : List Record) (s : State) (f : List ℕ) (n : ℕ)
       → (records_replayed e last room xs s f n).ending.state.control.time.timed ≡ s.control.time.timed
   unfolding records_replayed
   replayed_timed last room [] s f n = refl
@@ -170,14 +173,14 @@ parts-replay_as_whole e room part more s f n h = by (eqb (refusal_of (length f) 
     by true q =
         ap (λ (c : Contents). contents_replayed e room c s f n) (contents-of-parts s.control.time.timed part more h)
         ∙ replayed-by-stop e room x.records x.stop (read_by s more) s f n (contents-stop s.control.time.timed part)
-        ∙ let_in_again e room n more s f (contents_replayed e room x s f n) q (replayed_timed e (number x.stop) room x.records s f n)
-        (replayed-length e (number x.stop) room x.records s f n)
+        ∙ let_in_again e room n more s f (contents_replayed e room x s f n) q (replayed_timed e (answer_number x.stop) room x.records s f n)
+        (replayed-length e (answer_number x.stop) room x.records s f n)
     by false q = rw q
 
 -- the place counts the answers
 module _ (e : Seen) where
   records-place :
-      (last : ℕ) (room : Room) (xs : List Recorded) (s : State) (f : List ℕ) (n : ℕ)
+      (last : ℕ) (room : Room) (xs : List Record) (s : State) (f : List ℕ) (n : ℕ)
       → (records_replayed e last room xs s f n).ending.place ≡ n + length (records_replayed e last room xs s f n).answers
   unfolding records_replayed
   records-place last room [] s f n = omega arith
@@ -194,7 +197,7 @@ module _ (e : Seen) where
   unfolding replayed
   replayed-place room c s f n =
       either (λ (x : Replayed). x.ending.place ≡ n + length x.answers) (eqb (refusal_of (length f) (length e.fonts.half) (length e.fonts.full)) 0)
-      (records-place (number (read_by s c).stop) room (read_by s c).records s f n)
+      (records-place (answer_number (read_by s c).stop) room (read_by s c).records s f n)
       (omega arith)
 
 -- stores from a place on leave what stands before it

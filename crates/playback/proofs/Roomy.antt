@@ -12,9 +12,10 @@ use Rattle.picture.specs.Picture.{Seen}
 use Rattle.picture.specs.Refusals.{refusal_of}
 use Rattle.calls.specs.State.{State}
 use Rattle.calls.specs.Calls.{Called}
-use Rattle.capture.specs.Record.{number}
-use Rattle.reader.specs.Capture.{Recorded}
-use Rattle.printed.specs.Text.{RecordAnswer, line, longest_line, has_room}
+use Rattle.refusals.specs.Numbers.{answer_number}
+use Rattle.capture.specs.declared.record.Record.{Record}
+use Rattle.printed.specs.declared.answer.RecordAnswer.{RecordAnswer}
+use Rattle.printed.specs.Text.{line, longest_line, has_room}
 use Rattle.printed.proofs.Writing.{decimal-length, line-length, count_digits}
 use Rattle.records.specs.Records.{record_called}
 use Rattle.playback.specs.Replay.{Replayed, halted, after_answers, endless, bytes, records_replayed, read_by, replayed}
@@ -28,7 +29,7 @@ has_room_lem rest n h l = rw (le-leb (longest_line n) rest (omega (arith, decima
 
 module _ (e : Seen) (last : ℕ) where
   roomy :
-      (rest : ℕ) (rs : List Recorded) (s : State) (f : List ℕ) (n : ℕ)
+      (rest : ℕ) (rs : List Record) (s : State) (f : List ℕ) (n : ℕ)
       → 29 * length rs ≤ rest
       → n + length rs < 2 ^ 64
       → records_replayed e last (bytes rest) rs s f n ≡ records_replayed e last endless rs s f n
@@ -51,4 +52,4 @@ pub room_tells_all : RoomTellsAll
 unfolding replayed
 room_tells_all e room capture s f n h l =
     ap (λ (r : Replayed). when eqb (refusal_of (length f) (length e.fonts.half) (length e.fonts.full)) 0 then r else halted s f n (refusal_of (length f) (length e.fonts.half) (length e.fonts.full)) false)
-    (roomy e (number (read_by s capture).stop) room (read_by s capture).records s f n h l)
+    (roomy e (answer_number (read_by s capture).stop) room (read_by s capture).records s f n h l)

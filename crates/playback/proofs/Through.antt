@@ -12,12 +12,13 @@ use Rattle.picture.specs.Picture.{Seen}
 use Rattle.picture.specs.Refusals.{refusal_of}
 use Rattle.calls.specs.State.{State}
 use Rattle.calls.specs.Calls.{Called}
-use Rattle.capture.specs.declared.Answer.{Answer}
-use Rattle.capture.specs.declared.Answer.TheVariants.{Record, Refused, End}
-use Rattle.capture.specs.Record.{read_first, number, taken_with}
-use Rattle.reader.specs.Capture.{Recorded, Contents, read_on, contents}
-use Rattle.capture.proofs.Answers.{Numbered}
-use Rattle.capture.proofs.Taken.{four_taken_no_end, taken-numbered}
+use Rattle.std.proofs.Common.{Some, None, Ok, Err}
+use Rattle.refusals.specs.Numbers.{refusal_number, answer_number}
+use Rattle.capture.specs.declared.record.Record.{Record}
+use Rattle.capture.specs.Record.{Answer, read_first, taken_with}
+use Rattle.capture.proofs.Answers.{refusal_numbered}
+use Rattle.capture.proofs.Taken.{four_taken_no_end}
+use Rattle.reader.specs.Capture.{Contents, read_on, contents}
 use Rattle.records.specs.Records.{record_called}
 use Rattle.playback.specs.Replay.{Replayed, Room, bytes, room_for, room_behind, records_replayed, read_by, replayed}
 use Rattle.printed.specs.Text.{line}
@@ -29,7 +30,7 @@ abbrev Ended : ℕ → ℕ → ℕ → Replayed → Type 0
 Ended last n records r = r.ending.number ≡ 0 → r.ending.full ≡ false → (last ≡ 0) × (r.ending.place ≡ n + records)
 
 module _ (e : Seen) (last : ℕ) where
-  all-replayed : (room : Room) (rs : List Recorded) (s : State) (f : List ℕ) (n : ℕ) → Ended last n (length rs) (records_replayed e last room rs s f n)
+  all-replayed : (room : Room) (rs : List Record) (s : State) (f : List ℕ) (n : ℕ) → Ended last n (length rs) (records_replayed e last room rs s f n)
   unfolding records_replayed
   all-replayed room [] s f n = λ z q. (z, omega arith)
   all-replayed room (r ∷ rs) s f n =
@@ -41,14 +42,14 @@ module _ (e : Seen) (last : ℕ) where
       (λ a z q. absurd (eqb-false k.number 0 a z)))
 
 -- what stops the reading with number 0 is the end, four bytes after each record
-goes-on-whole : (a : Answer) (on : Contents) (rest : ℕ) → Numbered a → (a ≡ End → ⊥) → (number on.stop ≡ 0 → rest ≡ 4 * length on.records)
-    → number (read_on a on).stop ≡ 0 → 4 + rest ≡ 4 * length (read_on a on).records
-goes-on-whole (Record kind value) on rest n never h z = omega (arith, h z)
-goes-on-whole (Refused m) on rest n never h z = absurd (eqb-false m 0 n z)
-goes-on-whole End on rest n never h z = absurd (never refl)
+goes-on-whole : (a : Answer) (on : Contents) (rest : ℕ) → (a ≡ Ok None → ⊥) → (answer_number on.stop ≡ 0 → rest ≡ 4 * length on.records)
+    → answer_number (read_on a on).stop ≡ 0 → 4 + rest ≡ 4 * length (read_on a on).records
+goes-on-whole (Ok (Some r)) on rest never h z = omega (arith, h z)
+goes-on-whole (Err refusal) on rest never h z = absurd (eqb-false (refusal_number refusal) 0 (refusal_numbered refusal) z)
+goes-on-whole (Ok None) on rest never h z = absurd (never refl)
 
 module _ (time : Bool) where
-  all_read : (c : List ℕ) → number (contents time c).stop ≡ 0 → length c ≡ 4 * length (contents time c).records
+  all_read : (c : List ℕ) → answer_number (contents time c).stop ≡ 0 → length c ≡ 4 * length (contents time c).records
   unfolding contents read_first
   all_read [] z = refl
   all_read (a ∷ []) z = absurd (omega arith)
@@ -58,7 +59,6 @@ module _ (time : Bool) where
       omega (
         arith,
         goes-on-whole (taken_with time (read_first (a ∷ b ∷ d ∷ e ∷ c))) (contents time c) (length c)
-            (taken-numbered time (a ∷ b ∷ d ∷ e ∷ c))
             (four_taken_no_end time a b d e c)
             (all_read c)
             z,
@@ -73,7 +73,7 @@ unfolding replayed
 went_through e room c s f n =
     either-told (λ (r : Replayed). r.ending.number ≡ 0 → r.ending.full ≡ false → r.ending.place ≡ n + length c / 4)
     (eqb (refusal_of (length f) (length e.fonts.half) (length e.fonts.full)) 0)
-    (λ t z q. let all = all-replayed e (number (read_by s c).stop) room (read_by s c).records s f n z q in omega (arith, all.1, all_read s.control.time.timed c all.0))
+    (λ t z q. let all = all-replayed e (answer_number (read_by s c).stop) room (read_by s c).records s f n z q in omega (arith, all.1, all_read s.control.time.timed c all.0))
     (λ t z q. absurd (eqb-false (refusal_of (length f) (length e.fonts.half) (length e.fonts.full)) 0 t z))
 
 -- and so has a transcript

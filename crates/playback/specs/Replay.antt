@@ -5,9 +5,11 @@ use Rattle.picture.specs.Picture.{Seen}
 use Rattle.picture.specs.Refusals.{lent_refusal}
 use Rattle.calls.specs.State.{State}
 use Rattle.calls.specs.Calls.{Called}
-use Rattle.capture.specs.Record.{number}
-use Rattle.reader.specs.Capture.{Recorded, Contents, contents}
-use Rattle.printed.specs.Text.{RecordAnswer, record_answer, line, has_room}
+use Rattle.refusals.specs.Numbers.{answer_number}
+use Rattle.capture.specs.declared.record.Record.{Record}
+use Rattle.reader.specs.Capture.{Contents, contents}
+use Rattle.printed.specs.declared.answer.RecordAnswer.{RecordAnswer}
+use Rattle.printed.specs.Text.{record_answer, line, has_room}
 use Rattle.records.specs.Records.{record_called}
 
 -- where a replay stands when it stops: the state, the frame, the records accepted, and the refusal number, 0 at the end; or else
@@ -56,7 +58,7 @@ room_behind (bytes rest) text = bytes (rest - length text)
 
 -- one record after another, each on what the ones before it left: one whose line might have no room is not carried out; an accepted one
 -- answers, and the replay goes on; a refused one has no effect. Behind the last, what stands there in the capture
-unfoldable pub records_replayed : Seen → ℕ → Room → List Recorded → State → List ℕ → ℕ → Replayed
+unfoldable pub records_replayed : Seen → ℕ → Room → List Record → State → List ℕ → ℕ → Replayed
 records_replayed e last room [] s frame place = halted s frame place last false
 records_replayed e last room (r ∷ rs) s frame place =
     let k : Called = record_called e r.kind r.value s frame in
@@ -73,5 +75,5 @@ read_by s capture = contents s.control.time.timed capture
 -- a replay from a number of accepted records on: refusals 1, 2, 3 before anything is read
 unfoldable pub replayed : Seen → Room → List ℕ → State → List ℕ → ℕ → Replayed
 replayed e room capture s frame place =
-    when eqb (lent_refusal e frame) 0 then records_replayed e (number (read_by s capture).stop) room (read_by s capture).records s frame place
+    when eqb (lent_refusal e frame) 0 then records_replayed e (answer_number (read_by s capture).stop) room (read_by s capture).records s frame place
     else halted s frame place (lent_refusal e frame) false

@@ -6,7 +6,12 @@ use Rattle.base.specs.Choice.{when◌then◌else◌}
 use Rattle.picture.specs.Picture.{Seen}
 use Rattle.calls.specs.State.{State}
 use Rattle.panel.specs.Handed.{state_of}
-use Rattle.printed.specs.Text.{RecordAnswer, record_answer, lines}
+use Rattle.printed.specs.declared.answer.RecordAnswer.{RecordAnswer}
+use Rattle.printed.specs.Text.{record_answer, lines}
+use Rattle.refusals.specs.Numbers.{refusal_number}
+use Rattle.capture.specs.declared.kind.Kind.TheVariants.{InstructionWrite}
+use Rattle.playback.specs.declared.Halt.{Halt}
+use Rattle.playback.specs.declared.Halt.TheVariants.{End, Refused, Full}
 use Rattle.playback.specs.declared.Stop.{Stop}
 use Rattle.playback.specs.Replay.{Ending, Replayed, endless, bytes, replayed}
 
@@ -32,7 +37,7 @@ told_by telling text = when telling then text else []
 -- in their order, stand at the beginning of the buffer, and all else in it is as it was
 abbrev pub told : Bool → ℕ → List ℕ → Replayed → Told
 told telling place text r =
-    let last : RecordAnswer = last_or (record_answer 0 0 0) r.answers in
+    let last : RecordAnswer = last_or (record_answer InstructionWrite 0 0) r.answers in
     let written : List ℕ = told_by telling (lines place r.answers) in
     record { ending = r.ending; reply = last.reply; count = last.count; text = sets text 0 written; filled = length written }
 
@@ -44,8 +49,20 @@ replayed_silently e capture s frame = told false 0 [] (replayed e endless captur
 unfoldable pub transcribed : Seen → List ℕ → State → List ℕ → ℕ → List ℕ → Told
 transcribed e capture s frame place text = told true place text (replayed e (bytes (length text)) capture s frame place)
 
+-- why a replay stopped, as a refusal number, 0 at the end
+abbrev pub halt_number : Halt → ℕ
+halt_number End = 0
+halt_number (Refused refusal) = refusal_number refusal
+halt_number Full = 0
+
+-- and whether it was for want of room
+abbrev pub is_full : Halt → Bool
+is_full End = false
+is_full (Refused refusal) = false
+is_full Full = true
+
 -- what the code's answer leaves, with the frame and the buffer
 abbrev pub left_by : Stop → List ℕ → List ℕ → Told
 left_by r frame text =
-    let ending : Ending = record { state = state_of r.panel; frame = frame; place = r.place; number = r.number; full = r.full } in
+    let ending : Ending = record { state = state_of r.panel; frame = frame; place = r.place; number = halt_number r.halt; full = is_full r.halt } in
     record { ending = ending; reply = r.reply; count = r.count; text = text; filled = r.filled }

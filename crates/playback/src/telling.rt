@@ -1,37 +1,50 @@
-// The lines of a replay, where it tells them.
-ghost use Rattle.std.specs.Prelude.{◌≡◌, ◌+◌, ◌≤◌, length};
-ghost use Rattle.printed.specs.Text.{record_answer, line, Put};
+// The lines of a replay, where it tells them. Whether it does is a type, and no value that each turn would ask: the loop is there for each.
+ghost use Rattle.std.specs.Prelude.{Bool, true, false, ◌≡◌, ◌+◌, ◌≤◌, length};
+ghost use Rattle.printed.specs.Text.{line, Put};
 ghost use Rattle.playback.specs.Transcript.{told_by};
 ghost use Rattle.playback.specs.Replay.{room_of, room_for};
 
-use printed::{has_room, put_line};
+use printed::{RecordAnswer, has_room, put_line};
 
-// Whether one more record may be carried out: always where no lines are told.
-pub(crate) fn room_for(telling: bool, rest: usize, place: usize) -> bool
-    ensures { result ≡ room_for (room_of telling rest) place }
-{
-    if telling {
-        return has_room(rest, place);
-    }
-    true
+pub(crate) trait Lines {
+    // Whether lines are told.
+    ghost telling: { Bool };
+
+    // Whether one more record may be carried out: always where no lines are told.
+    fn room_for(rest: usize, place: usize) -> bool
+        ensures { result ≡ room_for (room_of telling rest) place };
+
+    // Puts a record's line behind those before it, and answers the place behind it.
+    fn tell(text: &mut [u8], filled: usize, place: usize, answer: RecordAnswer) -> usize
+        requires { filled + length (told_by telling (line place answer)) ≤ length text.old }
+        ensures { Put text.old filled (told_by telling (line place answer)) text.new result };
 }
 
-// Puts a record's line behind those before it, and answers the place behind it.
-#[tactic(auto, unfolding(printed::specs::Text::line))]
-pub(crate) fn tell(
-    telling: bool,
-    text: &mut [u8],
-    filled: usize,
-    place: usize,
-    kind: u8,
-    reply: u8,
-    count: usize,
-) -> usize
-    requires { filled + length (told_by telling (line place (record_answer kind reply count))) ≤ length text.old }
-    ensures { Put text.old filled (told_by telling (line place (record_answer kind reply count))) text.new result }
-{
-    if telling {
-        return put_line(text, filled, place, kind, reply, count);
+pub(crate) struct Told;
+
+impl Lines for Told {
+    ghost telling = { true };
+
+    fn room_for(rest: usize, place: usize) -> bool {
+        has_room(rest, place)
     }
-    filled
+
+    fn tell(text: &mut [u8], filled: usize, place: usize, answer: RecordAnswer) -> usize {
+        put_line(text, filled, place, answer)
+    }
+}
+
+// No lines, and so nothing of the buffer is used.
+pub(crate) struct Silent;
+
+impl Lines for Silent {
+    ghost telling = { false };
+
+    fn room_for(_rest: usize, _place: usize) -> bool {
+        true
+    }
+
+    fn tell(_text: &mut [u8], filled: usize, _place: usize, _answer: RecordAnswer) -> usize {
+        filled
+    }
 }

@@ -1,18 +1,20 @@
 -- Laws of writing into a buffer: one text after another is both, and how long each can be.
-use Prim.Native.Nat.{ℕ, zero, suc, ◌+◌, ◌-◌, ◌/◌, ◌%◌, ◌≤◌, ◌<◌}
+use Prim.Native.Nat.{ℕ, zero, suc, ◌+◌, ◌-◌, ◌*◌, ◌/◌, ◌%◌, ◌^◌, ◌≤◌, ◌<◌}
 use mathlib.Core.Bool.{Bool, true, false}
-use mathlib.Core.List.{List, [], ◌∷◌, ◌++◌}
+use mathlib.Core.List.{List, [], ◌∷◌, ◌++◌, append_assoc}
 use mathlib.Core.Path.{◌≡◌, refl, sym, ap, ◌∙◌}
-use native.Mathlib.Nat.{zero-add}
 use native.Mathlib.Omega.{arith}
-use borrow.Author.Tests.{lt-ltb, le-ltb, eq-eqb, ne_eqb}
-use lib.Dec.{eqb, ltb}
-use lib.ListN.{length, set, length-append}
-use lib.Seq.{sets, length-sets, length-take-le}
+use Rattle.std.proofs.Math.Nat.{pow-suc, one-le-pow}
+use borrow.Author.Tests.{lt-ltb, le-ltb}
+use lib.Dec.{ltb}
+use lib.ListN.{length, set, take, drop, length-append}
+use lib.Seq.{sets, length-sets, length-take-le, drop-drop}
+use Rattle.std.proofs.lemmas.List.Edits.{sets-eq}
+use borrow.Rule.Slice.PartMut.{put_mid}
 use Rattle.base.specs.Choice.{when◌then◌else◌}
-use Rattle.base.proofs.Choice.{either}
 use Rattle.base.proofs.Lists.{sets_append}
-use Rattle.printed.specs.Text.{RecordAnswer, decimal, one_byte, middle, line, end_line, stop_line, last_line, Put, begun_with, begun_as, Counts}
+use Rattle.printed.specs.declared.answer.RecordAnswer.{RecordAnswer}
+use Rattle.printed.specs.Text.{decimal, middle, line, end_line, stop_line, Put, Counts}
 
 module _ {l m : List ℕ} {i j : ℕ} {a : List ℕ} (p : Put l i a m j) where
   pub put_length : length m ≡ length l
@@ -28,7 +30,18 @@ module _ {l m : List ℕ} {i j : ℕ} {a : List ℕ} (p : Put l i a m j) where
     follows = omega (arith, p.follows, q.follows, length-append a b);
   }
 
-pub put_byte : (l : List ℕ) (i b : ℕ) → Put l i (one_byte b) (set l i b) (i + 1)
+-- a text copied into a part of a buffer that is as long
+pub put_copied : (l : List ℕ) (i : ℕ) (a : List ℕ) → i + length a ≤ length l → Put l i a (put_mid i (i + length a - i) l a) (i + length a)
+put_copied l i a h = record {
+  stands =
+      let own : i + length a - i ≡ length a = omega arith in
+      ap (λ (n : ℕ). take i l ++ (a ++ drop n (drop i l))) own
+      ∙ ap (λ (rest : List ℕ). take i l ++ (a ++ rest)) (drop-drop (length a) i l)
+      ∙ sym (sets-eq a l i h ∙ append_assoc (take i l) a (drop (i + length a) l));
+  follows = refl;
+}
+
+pub put_byte : (l : List ℕ) (i b : ℕ) → Put l i (b ∷ []) (set l i b) (i + 1)
 put_byte l i b = record { stands = refl; follows = refl }
 
 -- the digits of a number, by the code's tests
@@ -58,23 +71,31 @@ count_digits n h =
     one-more-digit 19 n 3
     (one-more-digit 18 (n / 10) 2 (one-more-digit 17 (n / 10 / 10) 1 (omega (arith, ap length (decimal-small 17 (n / 10 / 10 / 10) (λ z. omega arith) few)))))
 
-decimal-suc : (most n : ℕ) → 10 ≤ n → decimal (suc most) n ≡ decimal most (n / 10) ++ ((0x30 + n % 10) ∷ [])
+-- a number from a power of ten on, and below the next, has a digit more than the power
+pub digits_by_power : (most n k : ℕ) → k < most → 10 ^ k ≤ n → n < 10 * 10 ^ k → k + 1 ≡ length (decimal most n)
 unfolding decimal
-decimal-suc most n l = rw (le-ltb n 10 l)
+digits_by_power zero n k small low high = absurd (omega arith)
+digits_by_power (suc most) n zero small low high = rw (lt-ltb n 10 (omega arith))
+digits_by_power (suc most) n (suc k) small low high =
+    let power = pow-suc 10 k in
+    rw (le-ltb n 10 (omega (arith, one-le-pow k 10 (omega arith))))
+    (omega (
+      arith,
+      length-append (decimal most (n / 10)) ((0x30 + n % 10) ∷ []),
+      digits_by_power most (n / 10) k (omega arith) (omega arith) (omega arith),
+    ))
 
-pub decimal_large : (most n : ℕ) → (most ≡ 0 → ⊥) → 10 ≤ n → decimal most n ≡ decimal (most - 1) (n / 10) ++ ((0x30 + n % 10) ∷ [])
-decimal_large zero n h l = absurd (h refl)
-decimal_large (suc most) n h l =
-    let e : suc most - 1 ≡ most = omega arith in
-    decimal-suc most n l ∙ ap (λ (k : ℕ). decimal k (n / 10) ++ ((0x30 + n % 10) ∷ [])) (sym e)
-
-pub put_large :
+-- the last digit of a number behind those before it
+pub put_last_digit :
     {l m : List ℕ} {i j : ℕ} (most n : ℕ)
     → (most ≡ 0 → ⊥)
-    → 10 ≤ n
-    → Put l i (decimal (most - 1) (n / 10)) m j
+    → Put l i (when ltb n 10 then [] else decimal (most - 1) (n / 10)) m j
     → Put l i (decimal most n) (set m j (0x30 + n % 10)) (j + 1)
-put_large {l} {m} {i} {j} most n h k p = rw (decimal_large most n h k) (put_then p (put_byte m j (0x30 + n % 10)))
+unfolding decimal
+put_last_digit zero n some p = absurd (some refl)
+put_last_digit {l} {m} {i} {j} (suc most) n some p =
+    let e : suc most - 1 ≡ most = omega arith in
+    put_then (rw (← e) p) (put_byte m j (0x30 + n % 10))
 
 pub line-length : (place : ℕ) (a : RecordAnswer) → length (line place a) ≡ length (decimal 20 place) + 4 + length (decimal 20 a.count) + 1
 unfolding line
@@ -83,37 +104,14 @@ line-length place a =
     ∙ ap (λ (n : ℕ). n + 1) (length-append (decimal 20 place ++ middle a.kind a.reply) (decimal 20 a.count))
     ∙ ap (λ (n : ℕ). n + length (decimal 20 a.count) + 1) (length-append (decimal 20 place) (middle a.kind a.reply))
 
-pub last-length : (place number : ℕ) → length (last_line place number) ≤ 48
-unfolding end_line stop_line
-last-length place number =
-    either (λ (l : List ℕ). length l ≤ 48) (eqb number 0)
-    (simp length-append (omega (arith, decimal-length 20 place)))
-    (simp length-append (omega (arith, decimal-length 20 place, decimal-length 20 number)))
+pub end_length : (place : ℕ) → length (end_line place) ≤ 48
+unfolding end_line
+end_length place = simp length-append (omega (arith, decimal-length 20 place))
+
+pub stop_length : (place number : ℕ) → length (stop_line place number) ≤ 48
+unfolding stop_line
+stop_length place number = simp length-append (omega (arith, decimal-length 20 place, decimal-length 20 number))
 
 -- a text from the beginning of a buffer, as a slice up to its end wants it
 pub put_counts : {l m : List ℕ} {j : ℕ} {a : List ℕ} → Put l 0 a m j → length a ≤ length l → Counts j m
 put_counts {l} {m} {j} {a} p h = let n : j ≤ length m = omega (arith, p.follows, put_length p) in (n, sym (length-take-le j m n))
-
--- the last line of a replay, in a buffer that has room for it
-last_put :
-    {l m : List ℕ} {j : ℕ} (place number : ℕ)
-    → length l ≡ 48
-    → Put l 0 (last_line place number) m j
-    → (begun_as j m ≡ begun_with l (last_line place number)) × Counts j m
-last_put place number h p = (rw (p.stands, p.follows, zero-add), put_counts p (rw h (last-length place number)))
-
-pub last_end :
-    {l m : List ℕ} {j : ℕ} (place number : ℕ)
-    → number ≡ 0
-    → length l ≡ 48
-    → Put l 0 (end_line place) m j
-    → (begun_as j m ≡ begun_with l (last_line place number)) × Counts j m
-last_end place number z h p = last_put place number h (rw (eq-eqb number 0 z) p)
-
-pub last-stop :
-    {l m : List ℕ} {j : ℕ} (place number : ℕ)
-    → (number ≡ 0 → ⊥)
-    → length l ≡ 48
-    → Put l 0 (stop_line place number) m j
-    → (begun_as j m ≡ begun_with l (last_line place number)) × Counts j m
-last-stop place number z h p = last_put place number h (rw (ne_eqb number 0 z) p)

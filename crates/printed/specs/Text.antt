@@ -1,16 +1,13 @@
 -- Document 01, "Captures": what `replay` prints, as a function of the answers. Characters are ASCII bytes.
-use Rattle.std.specs.Prelude.{ℕ, zero, suc, ◌+◌, ◌-◌, ◌/◌, ◌%◌, ◌^◌, ◌≤◌, Bool, ◌&&◌, ◌≡◌, List, [], ◌∷◌, ◌++◌, eqb, leb, ltb, length, take}
+use Rattle.std.specs.Prelude.{ℕ, zero, suc, ◌+◌, ◌-◌, ◌/◌, ◌%◌, ◌^◌, ◌≤◌, Bool, ◌&&◌, ◌≡◌, List, [], ◌∷◌, ◌++◌, leb, ltb, length, take, codes, eqb}
 use Rattle.std.proofs.lemmas.List.Edits.{sets}
 use Rattle.base.specs.Choice.{when◌then◌else◌}
-use Rattle.capture.specs.Kinds.{kind_of, reads}
+use Rattle.capture.specs.declared.kind.Kind.{Kind}
+use Rattle.capture.specs.Kinds.{reads}
+use Rattle.printed.specs.declared.answer.RecordAnswer.{RecordAnswer}
 
 -- what an accepted record answers
-pub record RecordAnswer : Type 0 where
-  pub kind : ℕ
-  pub reply : ℕ
-  pub count : ℕ
-
-abbrev pub record_answer : ℕ → ℕ → ℕ → RecordAnswer
+abbrev pub record_answer : Kind → ℕ → ℕ → RecordAnswer
 record_answer kind reply count = record { kind = kind; reply = reply; count = count }
 
 -- a hex digit, in capitals
@@ -23,22 +20,16 @@ decimal zero n = []
 decimal (suc most) n = (when ltb n 10 then [] else decimal most (n / 10)) ++ ((0x30 + n % 10) ∷ [])
 
 -- a digit of a read's reply; a dash for other kinds
-abbrev pub shown : ℕ → ℕ → ℕ
-shown kind character = when reads (kind_of kind) then character else 0x2D
-
-abbrev pub one_byte : ℕ → List ℕ
-one_byte a = a ∷ []
-
-abbrev pub four_bytes : ℕ → ℕ → ℕ → ℕ → List ℕ
-four_bytes a b c d = a ∷ b ∷ c ∷ d ∷ []
+abbrev pub shown : Kind → ℕ → ℕ
+shown kind character = when reads kind then character else 0x2D
 
 -- the reply between two spaces
-abbrev pub middle : ℕ → ℕ → List ℕ
-middle kind reply = four_bytes 0x20 (shown kind (digit (reply / 16))) (shown kind (digit (reply % 16))) 0x20
+abbrev pub middle : Kind → ℕ → List ℕ
+middle kind reply = 0x20 ∷ shown kind (digit (reply / 16)) ∷ shown kind (digit (reply % 16)) ∷ 0x20 ∷ []
 
 -- per accepted record its number, reply and count; a number of 64 bits has at most 20 digits
 unfoldable pub line : ℕ → RecordAnswer → List ℕ
-line place a = decimal 20 place ++ middle a.kind a.reply ++ decimal 20 a.count ++ one_byte 0x0A
+line place a = decimal 20 place ++ middle a.kind a.reply ++ decimal 20 a.count ++ codes "\n"
 
 -- the longest line: the digits of its number, two spaces, two characters, a count of at most 1,024, a line feed
 abbrev pub longest_line : ℕ → ℕ
@@ -54,11 +45,10 @@ lines place [] = []
 lines place (a ∷ more) = line place a ++ lines (place + 1) more
 
 unfoldable pub end_line : ℕ → List ℕ
-end_line place = four_bytes 0x65 0x6E 0x64 0x20 ++ decimal 20 place ++ one_byte 0x0A
+end_line place = codes "end " ++ decimal 20 place ++ codes "\n"
 
 unfoldable pub stop_line : ℕ → ℕ → List ℕ
-stop_line place number =
-    four_bytes 0x73 0x74 0x6F 0x70 ++ one_byte 0x20 ++ decimal 20 place ++ one_byte 0x20 ++ decimal 20 number ++ one_byte 0x0A
+stop_line place number = codes "stop " ++ decimal 20 place ++ codes " " ++ decimal 20 number ++ codes "\n"
 
 -- `end N`, or `stop N code`
 abbrev pub last_line : ℕ → ℕ → List ℕ

@@ -1,10 +1,9 @@
 -- Document 01, "Captures": the records of a capture, one after another, and what each leaves of it.
-use Rattle.std.specs.Prelude.{ℕ, ◌+◌, min, Bool, List, [], ◌∷◌, length, drop}
+use Rattle.std.specs.Prelude.{ℕ, ◌+◌, min, Bool, List, [], ◌∷◌, length, drop, Some, None, Ok, Err}
 use Rattle.std.specs.Borrow.{Bor}
-use Rattle.capture.specs.declared.Answer.{Answer}
-use Rattle.capture.specs.declared.Answer.TheVariants.{Record, Refused, End}
+use Rattle.capture.specs.declared.record.Record.{Record}
 use Rattle.reader.specs.declared.Step.{Step}
-use Rattle.capture.specs.Record.{read_first, passed, taken_with}
+use Rattle.capture.specs.Record.{Answer, read_first, passed, taken_with}
 use Rattle.reader.specs.Part.{Part, from}
 
 -- the caller's own capture from a position on: each record read leaves the rest of it, beginning after the record
@@ -20,14 +19,9 @@ read_at c at = read_first (drop at c)
 abbrev pub step_at : List ℕ → ℕ → Step
 step_at c at = record { answer = read_at c at; next = at + passed (read_at c at) }
 
--- a record's two numbers
-pub record Recorded : Type 0 where
-  pub kind : ℕ
-  pub value : ℕ
-
 -- a capture read through by a panel with or without time: its records, and what stands where reading stops
 pub record Contents : Type 0 where
-  pub records : List Recorded
+  pub records : List Record
   pub stop : Answer
 
 abbrev pub no_more : Answer → Contents
@@ -35,9 +29,9 @@ no_more a = record { records = []; stop = a }
 
 -- a record is followed by what comes after it; anything else stops the reading
 abbrev pub read_on : Answer → Contents → Contents
-read_on (Record kind value) on = record { records = record { kind = kind; value = value } ∷ on.records; stop = on.stop }
-read_on (Refused n) on = no_more (Refused n)
-read_on End on = no_more End
+read_on (Ok (Some r)) on = record { records = r ∷ on.records; stop = on.stop }
+read_on (Ok None) on = no_more (Ok None)
+read_on (Err refusal) on = no_more (Err refusal)
 
 -- by four bytes at a time; fewer are no record
 unfoldable pub contents : Bool → List ℕ → Contents

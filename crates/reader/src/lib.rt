@@ -13,11 +13,7 @@ use capture::{Answer, read};
 fn part_from(capture: &[u8], at: usize) -> &[u8]
     ensures { lent result ≡ part_from capture.entry at }
 {
-    let end = capture.len();
-    if end < at {
-        return &capture[end..];
-    }
-    &capture[at..]
+    &capture[at.min(capture.len())..]
 }
 
 // What stands at a position, and the position behind it: a record's four bytes further on, or the same where there is none.
@@ -43,9 +39,8 @@ fn passed(answer: Answer) -> usize
     ensures { result ≡ passed answer }
 {
     match answer {
-        Answer::Record { kind: _, value: _ } => 4,
-        Answer::Refused(_) => 0,
-        Answer::End => 0,
+        Ok(Some(_)) => 4,
+        Ok(None) | Err(_) => 0,
     }
 }
 

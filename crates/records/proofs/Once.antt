@@ -1,4 +1,5 @@
 -- Eight bits count once: at most one of them completes a byte, and a bit that completes none names nothing.
+use Rattle.std.proofs.Common.{Option, Some, None}
 use Prim.Native.Nat.{ℕ, zero, suc, ◌+◌, ◌≤◌}
 use mathlib.Core.Bool.{Bool, true, false}
 use mathlib.Core.List.{List, [], ◌∷◌, map}
@@ -15,7 +16,6 @@ use Rattle.links.specs.declared.Link.{Link}
 use Rattle.links.specs.declared.Link.TheVariants.{Parallel, Serial}
 use Rattle.serial.specs.declared.Receiver.{Receiver}
 use Rattle.serial.specs.declared.Received.{Received}
-use Rattle.serial.specs.declared.Received.TheVariants as received
 use Rattle.serial.specs.declared.Heard.{Heard}
 use Rattle.events.specs.declared.Event.{Event}
 use Rattle.events.specs.declared.Event.TheVariants.{Bit}
@@ -30,10 +30,10 @@ use Rattle.repaint.specs.Repaint.{named, count_named}
 use Rattle.repaint.proofs.Counts.{count-nothing}
 use Rattle.calls.specs.State.{State, state}
 use Rattle.calls.specs.Calls.{Called, refused, accepted, called}
-use Rattle.capture.specs.Kinds.{kind_of}
+use Rattle.capture.specs.declared.kind.Kind.{Kind}
 use Rattle.records.specs.Records.{called_on, called_in_turn, record_called}
 use Rattle.records.specs.Statements.{counts_in_turn, OneCounts, EightBitsCountOnce}
-use Rattle.calls.proofs.Kept.{called-count, called-length}
+use Rattle.calls.proofs.StaysInRange.{called-count, called-length}
 use Rattle.records.proofs.Bits.{lowest}
 use Rattle.records.proofs.Refused.{one_or_bits, in_turn_accepted, in_turn_refused, one_in_turn}
 
@@ -42,19 +42,19 @@ sum [] = 0
 sum (n ∷ ns) = n + sum ns
 
 -- what each bit brings, and its count: none where it brings nothing
-Counted : List Received → List ℕ → Type 0
+Counted : List (Option Received) → List ℕ → Type 0
 Counted [] [] = Unit {0}
 Counted [] (n ∷ ns) = ⊥
 Counted (x ∷ xs) [] = ⊥
-Counted (x ∷ xs) (n ∷ ns) = (x ≡ received.Nothing → n ≡ 0) × (n ≤ 1024) × Counted xs ns
+Counted (x ∷ xs) (n ∷ ns) = (x ≡ None → n ≡ 0) × (n ≤ 1024) × Counted xs ns
 
-none-counts : (xs : List Received) (ns : List ℕ) → Counted xs ns → listens.bytes_in xs ≡ 0 → ns ≡ replicate (length ns) 0
+none-counts : (xs : List (Option Received)) (ns : List ℕ) → Counted xs ns → listens.bytes_in xs ≡ 0 → ns ≡ replicate (length ns) 0
 unfolding Counted listens.bytes_in
 none-counts [] [] c h = refl
 none-counts [] (n ∷ ns) c h = absurd c
 none-counts (x ∷ xs) [] c h = absurd c
-none-counts (received.Nothing ∷ xs) (n ∷ ns) c h = rw (c.0 refl) (ap (λ (l : List ℕ). 0 ∷ l) (none-counts xs ns c.2 h))
-none-counts (received.Byte register byte ∷ xs) (n ∷ ns) c h = absurd (omega arith)
+none-counts (None ∷ xs) (n ∷ ns) c h = rw (c.0 refl) (ap (λ (l : List ℕ). 0 ∷ l) (none-counts xs ns c.2 h))
+none-counts (Some received ∷ xs) (n ∷ ns) c h = absurd (omega arith)
 
 zeros-sum : (n : ℕ) → sum (replicate n 0) ≡ 0
 unfolding sum
@@ -62,7 +62,7 @@ zeros-sum zero = refl
 zeros-sum (suc n) = omega (arith, zeros-sum n)
 
 one-counts :
-    (xs : List Received) (ns : List ℕ)
+    (xs : List (Option Received)) (ns : List ℕ)
     → Counted xs ns
     → listens.bytes_in xs ≤ 1
     → 1 ≤ length ns
@@ -73,10 +73,10 @@ unfolding Counted listens.bytes_in sum
 one-counts [] [] c h l k is = absurd (omega arith)
 one-counts [] (n ∷ ns) c h l k is = absurd c
 one-counts (x ∷ xs) [] c h l k is = absurd c
-one-counts (received.Nothing ∷ xs) (n ∷ []) c h l k is =
+one-counts (None ∷ xs) (n ∷ []) c h l k is =
     let same : k ≡ n = omega arith in
     record { before = 0; after = 0; alone = ap (λ (m : ℕ). m ∷ []) (sym same); most = omega (arith, c.1) }
-one-counts (received.Nothing ∷ xs) (n ∷ m ∷ ns) c h l k is =
+one-counts (None ∷ xs) (n ∷ m ∷ ns) c h l k is =
     let zero-first : n ≡ 0 = c.0 refl in
     let rest = one-counts xs (m ∷ ns) c.2 h (omega arith) k (omega arith) in
     record {
@@ -85,7 +85,7 @@ one-counts (received.Nothing ∷ xs) (n ∷ m ∷ ns) c h l k is =
       alone = ap (λ (i : ℕ). i ∷ m ∷ ns) zero-first ∙ ap (λ (i : List ℕ). 0 ∷ i) rest.alone;
       most = rest.most;
     }
-one-counts (received.Byte register byte ∷ xs) (n ∷ ns) c h l k is =
+one-counts (Some received ∷ xs) (n ∷ ns) c h l k is =
     let zeros : ns ≡ replicate (length ns) 0 = none-counts xs ns c.2 (omega arith) in
     let same : k ≡ n = omega (arith, ap sum zeros, zeros-sum (length ns)) in
     record {
@@ -116,7 +116,7 @@ module _ (e : Seen) where
   unfolding called taken_by
   taken-bit m c r f b fits = rw fits
 
-  quiet : (m : Memories) (c : Control) (f : List ℕ) (h : Heard) → h.received ≡ received.Nothing → (heard_call m c f h).count ≡ 0
+  quiet : (m : Memories) (c : Control) (f : List ℕ) (h : Heard) → h.received ≡ None → (heard_call m c f h).count ≡ 0
   unfolding performed count_named named
   quiet m c f h is = rw is (count-nothing c.view m.text)
 
@@ -193,9 +193,9 @@ eight_bits-count_once e value s frame =
     by-link e s.memories s.control (bits.bit 7 value) (lowest value 7) frame _ (omega arith) refl s.link
 
 -- so a record's count is one call's
-pub record_count : (e : Seen) (kind value : ℕ) (s : State) (frame : List ℕ) → (record_called e kind value s frame).count ≤ 1024
+pub record_count : (e : Seen) (kind : Kind) (value : ℕ) (s : State) (frame : List ℕ) → (record_called e kind value s frame).count ≤ 1024
 unfolding record_called
 record_count e kind value s frame =
-    one_or_bits (λ (events : List Event). (called_in_turn e s frame events).count ≤ 1024) (kind_of kind) value
+    one_or_bits (λ (events : List Event). (called_in_turn e s frame events).count ≤ 1024) kind value
     (λ event. rw (one_in_turn e s frame event) (called-count e s frame event))
     (eight_bits-count_once e value s frame).most

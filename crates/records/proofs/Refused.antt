@@ -11,10 +11,11 @@ use Rattle.events.specs.declared.Event.{Event}
 use Rattle.events.specs.declared.Event.TheVariants.{Bit}
 use Rattle.sender.specs.Sender.{highest_first}
 use Rattle.picture.specs.Picture.{Seen}
-use Rattle.capture.specs.Kinds.{Kind, instruction_write, data_write, status_read, data_read, eight_bits, chip_select_low, reset, time_passes, kind_of}
+use Rattle.capture.specs.declared.kind.Kind.{Kind}
+use Rattle.capture.specs.declared.kind.Kind.TheVariants.{InstructionWrite, DataWrite, StatusRead, DataRead, EightBits, ChipSelectLow, Reset, TimePasses}
 use Rattle.calls.specs.State.{State}
 use Rattle.calls.specs.Calls.{Called, called}
-use Rattle.calls.proofs.Kept.{Unmoved, called_unmoved, called_timed, called-length}
+use Rattle.calls.proofs.StaysInRange.{Unmoved, called_unmoved, called_timed, called-length}
 use Rattle.records.specs.Records.{asks, called_on, first_number, called_in_turn, record_called}
 
 -- a record asks for one event, or for the bits of its value
@@ -23,14 +24,14 @@ pub one_or_bits :
     → ((event : Event) → P (event ∷ []))
     → P (map Bit (highest_first value))
     → P (asks kind value)
-one_or_bits P instruction_write value one bits = one _
-one_or_bits P data_write value one bits = one _
-one_or_bits P status_read value one bits = one _
-one_or_bits P data_read value one bits = one _
-one_or_bits P eight_bits value one bits = bits
-one_or_bits P chip_select_low value one bits = one _
-one_or_bits P reset value one bits = one _
-one_or_bits P time_passes value one bits = one _
+one_or_bits P InstructionWrite value one bits = one _
+one_or_bits P DataWrite value one bits = one _
+one_or_bits P StatusRead value one bits = one _
+one_or_bits P DataRead value one bits = one _
+one_or_bits P EightBits value one bits = bits
+one_or_bits P ChipSelectLow value one bits = one _
+one_or_bits P Reset value one bits = one _
+one_or_bits P TimePasses value one bits = one _
 
 -- what is called in turn is no refusal
 pub called-on-accepted : (e : Seen) (reply : ℕ) (s : State) (frame : List ℕ) (events : List Event) → (called_on e reply s frame events).number ≡ 0
@@ -93,7 +94,7 @@ module _ (e : Seen) (s : State) (frame : List ℕ) where
       ∙ rw add-zero (ap (λ (n : ℕ). record { state = k.state; number = n; reply = k.reply; count = k.count; frame = k.frame }) (sym z)))
       (λ t. in_turn_refused event [] (eqb-false k.number 0 t))
 
-module _ (e : Seen) (kind value : ℕ) (s : State) (frame : List ℕ) where
+module _ (e : Seen) (kind : Kind) (value : ℕ) (s : State) (frame : List ℕ) where
   -- earlier records stand, the refused one has no effect
   pub record_unmoved : Unmoved s frame (record_called e kind value s frame)
   unfolding record_called
@@ -111,13 +112,3 @@ module _ (e : Seen) (kind value : ℕ) (s : State) (frame : List ℕ) where
   -- the frame is what it was
   pub record_frame : (k : Called) → k ≡ record_called e kind value s frame → (k.number ≡ 0 → ⊥) → k.frame ≡ frame
   record_frame k is z = ap (λ (x : Called). x.frame) (is ∙ record_unmoved (λ y. z (ap (λ (x : Called). x.number) is ∙ y)))
-
-  -- a record is its one event, or its eight bits
-  module _ (k : Called) where
-    pub record_of_one : (event : Event) → k ≡ called e s frame event → event ∷ [] ≡ asks (kind_of kind) value → k ≡ record_called e kind value s frame
-    unfolding record_called
-    record_of_one event is asked = is ∙ sym (one_in_turn e s frame event) ∙ ap (called_in_turn e s frame) asked
-
-    pub record_of_bits : kind ≡ 4 → k ≡ called_in_turn e s frame (asks eight_bits value) → k ≡ record_called e kind value s frame
-    unfolding record_called kind_of
-    record_of_bits four is = is ∙ rw four

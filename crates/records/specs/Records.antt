@@ -9,7 +9,8 @@ use Rattle.events.specs.declared.Transfer.TheVariants.{Instruct, Write, Status, 
 use Rattle.controller.specs.State.{numbering_of}
 use Rattle.sender.specs.Sender.{highest_first}
 use Rattle.picture.specs.Picture.{Seen}
-use Rattle.capture.specs.Kinds.{Kind, instruction_write, data_write, status_read, data_read, eight_bits, chip_select_low, reset, time_passes, kind_of}
+use Rattle.capture.specs.declared.kind.Kind.{Kind}
+use Rattle.capture.specs.declared.kind.Kind.TheVariants as kinds
 use Rattle.calls.specs.State.{State}
 use Rattle.calls.specs.Calls.{Called, refused, called}
 
@@ -19,14 +20,14 @@ pin_of value = record { parallel = bit 0 value; numbering = numbering_of (bit 1 
 
 -- the events of each kind with its value; serial bits highest first
 abbrev pub asks : Kind → ℕ → List Event
-asks instruction_write value = Transfer (Instruct value) ∷ []
-asks data_write value = Transfer (Write value) ∷ []
-asks status_read value = Transfer Status ∷ []
-asks data_read value = Transfer Read ∷ []
-asks eight_bits value = map Bit (highest_first value)
-asks chip_select_low value = SelectLow ∷ []
-asks reset value = Reset (pin_of value) ∷ []
-asks time_passes value = Pass value ∷ []
+asks kinds.InstructionWrite value = Transfer (Instruct value) ∷ []
+asks kinds.DataWrite value = Transfer (Write value) ∷ []
+asks kinds.StatusRead value = Transfer Status ∷ []
+asks kinds.DataRead value = Transfer Read ∷ []
+asks kinds.EightBits value = map Bit (highest_first value)
+asks kinds.ChipSelectLow value = SelectLow ∷ []
+asks kinds.Reset value = Reset (pin_of value) ∷ []
+asks kinds.TimePasses value = Pass value ∷ []
 
 -- called in turn, behind a call that replied so: number 0, the last reply, the sum of the counts
 unfoldable pub called_on : Seen → ℕ → State → List ℕ → List Event → Called
@@ -47,5 +48,5 @@ called_in_turn e s frame events =
     else refused s frame (first_number e s frame events)
 
 -- a record: its events in turn
-unfoldable pub record_called : Seen → ℕ → ℕ → State → List ℕ → Called
-record_called e kind value s frame = called_in_turn e s frame (asks (kind_of kind) value)
+unfoldable pub record_called : Seen → Kind → ℕ → State → List ℕ → Called
+record_called e kind value s frame = called_in_turn e s frame (asks kind value)

@@ -4,7 +4,7 @@ use Rattle.picture.specs.Picture.{Seen}
 use Rattle.calls.specs.State.{State}
 use Rattle.events.specs.declared.Event.{Event}
 use Rattle.calls.specs.Calls.{Called, called}
-use Rattle.capture.specs.Kinds.{eight_bits}
+use Rattle.capture.specs.declared.kind.Kind.TheVariants.{EightBits}
 use Rattle.records.specs.Records.{asks, called_in_turn}
 
 -- the counts of calls in turn
@@ -25,4 +25,4 @@ pub record OneCounts (counts : List ℕ) (count : ℕ) : Type 0 where
 abbrev pub EightBitsCountOnce : Type 0
 EightBitsCountOnce =
     (e : Seen) (value : ℕ) (s : State) (frame : List ℕ)
-    → OneCounts (counts_in_turn e s frame (asks eight_bits value)) (called_in_turn e s frame (asks eight_bits value)).count
+    → OneCounts (counts_in_turn e s frame (asks EightBits value)) (called_in_turn e s frame (asks EightBits value)).count

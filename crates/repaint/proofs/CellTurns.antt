@@ -152,7 +152,7 @@ module _ (e : Fonts) (m : Memories) (look : Look) (word : ℕ) (range : ViewWith
       (λ i l u. byte-shown-by e m look tile word (i / 32) (i % 32) t (its_word (i / 32) (i % 32) (sym (named i (omega arith)) ∙ u))))
 
   -- a cell that does not show
-  pub word_hidden : (b : ℕ → ℕ → ℕ) → run_end look.view.scroll (word / 16) ≡ 0 → painting 0 f ≡ paints_on wide (in_cell look.view word) b f
+  pub word_hidden : (b : ℕ → ℕ → ℕ) → run_end look.view.scroll (word / 16) ≤ run_first look.view.scroll (word / 16) → painting 0 f ≡ paints_on wide (in_cell look.view word) b f
   word_hidden b z =
       paints-none 1024 (on wide (in_cell look.view word)) (on wide b) f size
       (λ i l. sym (named i l) ∙ never _ (λ t. let q = in_rows_lem (in_columns cell) (run_first look.view.scroll (word / 16)) (run_end look.view.scroll (word / 16)) (i / 32) (i % 32) t in omega arith))

@@ -1,4 +1,5 @@
 -- How many bytes a region has: a cell at most 32, a glyph half at most 32, a graphic half at most 1, by the rows and columns it can be in.
+use Rattle.std.proofs.Common.{None, Option, Some}
 use Prim.Native.Nat.{ℕ, ◌+◌, ◌*◌, ◌/◌, ◌%◌, ◌<◌, ◌≤◌}
 use mathlib.Core.Bool.{Bool, true, false, ◌&&◌}
 use mathlib.Core.List.{List}
@@ -12,8 +13,6 @@ use Rattle.base.specs.Layout.{on, count_on}
 use Rattle.base.proofs.Counting.{count_cong, count_none, count-all, count_or_le, count_window, count_grid, count-rows}
 use Rattle.base.proofs.Tests.{and_both}
 use Rattle.controller.specs.declared.View.{View}
-use Rattle.controller.specs.declared.Cell.{Cell}
-use Rattle.controller.specs.declared.Cell.TheVariants.{Nowhere, Word}
 use Rattle.controller.specs.declared.Region.{Region}
 use Rattle.controller.specs.declared.Region.TheVariants.{Nothing, Whole, Cells, GlyphHalf, GraphicHalf}
 use Rattle.controller.specs.Memories.{half}
@@ -120,11 +119,11 @@ count-graphic v y k low =
     let b = graphic-place-is v y k low (j / 32) (j % 32) f in
     same_place v.scroll i j y (2 * k + half low) h g a.0 b.0 a.1 b.1)
 
-some-cell-count : (v : View) (cell : Cell) → count_on wide (in_some_cell v cell) ≤ 32
-some-cell-count v Nowhere = subst (λ (n : ℕ). n ≤ 32) (sym (count_none 1024 (on wide (in_some_cell v Nowhere)) (λ i h. refl))) (omega arith)
-some-cell-count v (Word word) = count-cell v word
+some-cell-count : (v : View) (cell : Option ℕ) → count_on wide (in_some_cell v cell) ≤ 32
+some-cell-count v None = subst (λ (n : ℕ). n ≤ 32) (sym (count_none 1024 (on wide (in_some_cell v None)) (λ i h. refl))) (omega arith)
+some-cell-count v (Some word) = count-cell v word
 
-pub count_cells : (v : View) (text : List ℕ) (a b : Cell) → count_on wide (covers v text (Cells a b)) ≤ 64
+pub count_cells : (v : View) (text : List ℕ) (a b : Option ℕ) → count_on wide (covers v text (Cells a b)) ≤ 64
 unfolding covers
 count_cells v text a b =
     let sum = count_or_le 1024 (on wide (in_some_cell v a)) (on wide (in_some_cell v b)) in

@@ -8,18 +8,15 @@ use lib.ListN.{length, set}
 use Rattle.base.specs.Painting.{painted}
 use Rattle.base.specs.Layout.{Layout, on, rows, columns}
 use Rattle.base.proofs.Counting.{count_cong, count_none, count_le, count_disjoint}
-use Rattle.base.proofs.Painting.{painted-length, painted_same, painted-none, painted_or}
+use Rattle.base.proofs.Painting.{painted_same, painted-none, painted_or}
 use Rattle.base.proofs.Layouts.{Placed, only, rows_none, rows_join, rows_apart, columns-none, columns-join, columns-apart, byte-painted, byte-counted}
 use Rattle.repaint.specs.Repaint.{painting, paints, paints_on}
 use Rattle.repaint.proofs.Records.{painting-both, painting-count, painting-frame}
 
 module _ (s : ℕ) where
-  -- at most every byte is counted, and the frame keeps its length
+  -- at most every byte is counted
   pub paints_le : (P : ℕ → Bool) (b : ℕ → ℕ) (f g : List ℕ) (n : ℕ) → painting n g ≡ paints s P b f → n ≤ s
   paints_le P b f g n e = subst (λ (k : ℕ). k ≤ s) (sym (painting-count e)) (count_le s P)
-
-  pub paints-length : (P : ℕ → Bool) (b : ℕ → ℕ) (f g : List ℕ) (n : ℕ) → painting n g ≡ paints s P b f → length g ≡ length f
-  paints-length P b f g n e = ap length (painting-frame e) ∙ painted-length P b f
 
   -- no place is named
   pub paints-none : (P : ℕ → Bool) (b : ℕ → ℕ) (f : List ℕ) → length f ≡ s → ((i : ℕ) → i < s → P i ≡ false) → painting 0 f ≡ paints s P b f

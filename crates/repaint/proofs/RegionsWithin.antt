@@ -1,4 +1,5 @@
 -- The numbers that a transfer's region carries lie within the memories, where the controls lie within their ranges.
+use Rattle.std.proofs.Common.{ℕ, None, Option, Some}
 use Prim.Native.Nat.{◌<◌}
 use mathlib.Core.Bool.{not, ◌&&◌}
 use mathlib.Core.Path.{◌≡◌, refl, subst}
@@ -7,8 +8,6 @@ use Rattle.table.specs.declared.Target.{Target}
 use Rattle.table.specs.declared.Target.TheVariants.{Text, Glyph, Graphic}
 use Rattle.table.specs.declared.Touch.{Touch}
 use Rattle.table.specs.declared.Touch.TheVariants as touch
-use Rattle.controller.specs.declared.Waiting.{Waiting}
-use Rattle.controller.specs.declared.Waiting.TheVariants as waiting
 use Rattle.controller.specs.declared.Control.{Control}
 use Rattle.controller.specs.State.{InRange, limit}
 use Rattle.controller.specs.Data.{is_text, completes, shifts}
@@ -21,9 +20,9 @@ module _ (c d : Control) (r : InRange c) (q : InRange d) where
   both-within =
       (either CellWithin (is_text c.place.target) (counter_64 c r) tt, either CellWithin (is_text d.place.target) (counter_64 d q) tt)
 
-  address_within : (w : Waiting) → RegionWithin (address_names w c.place d.place)
-  address_within waiting.Nothing = both-within
-  address_within (waiting.Row y) = tt
+  address_within : (w : Option ℕ) → RegionWithin (address_names w c.place d.place)
+  address_within None = both-within
+  address_within (Some y) = tt
 
   touch_within : (t : Touch) → RegionWithin (touch_names t c.place d.place)
   touch_within touch.Nothing = tt

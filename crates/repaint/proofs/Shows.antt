@@ -1,4 +1,5 @@
 -- A place lies in the cell of the text word that it shows, and in no other: so what is at the counter's word lies in the counter's cell.
+use Rattle.std.proofs.Common.{None, Option, Some}
 use Prim.Native.Nat.{ℕ, ◌+◌, ◌*◌, ◌/◌, ◌%◌, ◌<◌}
 use mathlib.Core.Bool.{true, ◌&&◌}
 use mathlib.Core.Path.{◌≡◌, refl}
@@ -7,8 +8,6 @@ use lib.Dec.{eqb}
 use borrow.Author.Tests.{eqb-true, eq-eqb}
 use Rattle.base.proofs.Tests.{alike, and_both}
 use Rattle.controller.specs.declared.View.{View}
-use Rattle.controller.specs.declared.Cell.{Cell}
-use Rattle.controller.specs.declared.Cell.TheVariants.{Nowhere, Word}
 use Rattle.controller.specs.Glass.{shown_row, shown_word}
 use Rattle.controller.specs.Named.{in_cell, in_some_cell}
 use Rattle.picture.specs.Picture.{at_counter}
@@ -34,6 +33,6 @@ unfolding in_cell shown_word
 in_cell-shows v word row column = line-and-column (shown_row v row / 16) ((column / 2 + v.shift) % 16) word (omega arith)
 
 -- the cell of a word, or none
-pub some-cell-shows : (v : View) (cell : Cell) (row column : ℕ) → in_some_cell v cell row column ≡ at_counter cell (shown_word v row (column / 2))
-some-cell-shows v Nowhere row column = refl
-some-cell-shows v (Word word) row column = in_cell-shows v word row column
+pub some-cell-shows : (v : View) (cell : Option ℕ) (row column : ℕ) → in_some_cell v cell row column ≡ at_counter cell (shown_word v row (column / 2))
+some-cell-shows v None row column = refl
+some-cell-shows v (Some word) row column = in_cell-shows v word row column

@@ -1,4 +1,5 @@
 -- Two cells: one and the same, or with no byte in common, since a place lies only in the cell of the word that it shows.
+use Rattle.std.proofs.Common.{None, Option, Some}
 use Prim.Native.Nat.{ℕ, ◌+◌, ◌/◌, ◌%◌}
 use mathlib.Core.Bool.{Bool, true, false, ◌&&◌, ◌||◌, and-false, true≢false}
 use mathlib.Core.List.{List}
@@ -9,8 +10,6 @@ use Rattle.base.specs.Layout.{on}
 use Rattle.base.proofs.Tests.{never, and_both}
 use Rattle.controller.specs.declared.View.{View}
 use Rattle.picture.specs.declared.Look.{Look}
-use Rattle.controller.specs.declared.Cell.{Cell}
-use Rattle.controller.specs.declared.Cell.TheVariants.{Nowhere, Word}
 use Rattle.controller.specs.declared.Region.TheVariants.{Cells}
 use Rattle.controller.specs.Memories.{Memories}
 use Rattle.controller.specs.Glass.{shown_word}
@@ -25,21 +24,21 @@ or_same true = refl
 or_same false = refl
 
 one_cell :
-    (v : View) (a b : Cell) (row column : ℕ)
+    (v : View) (a b : Option ℕ) (row column : ℕ)
     → same_cell a b ≡ true
     → in_some_cell v a row column ≡ (in_some_cell v a row column || in_some_cell v b row column)
-one_cell v Nowhere b row column e = absurd (true≢false (sym e))
-one_cell v (Word x) Nowhere row column e = absurd (true≢false (sym e))
-one_cell v (Word x) (Word y) row column e =
+one_cell v None b row column e = absurd (true≢false (sym e))
+one_cell v (Some x) None row column e = absurd (true≢false (sym e))
+one_cell v (Some x) (Some y) row column e =
     or_same (in_cell v x row column) ∙ ap (λ (w : ℕ). in_cell v x row column || in_cell v w row column) (eqb-true x y e)
 
 apart_cells :
-    (v : View) (a b : Cell) (row column : ℕ)
+    (v : View) (a b : Option ℕ) (row column : ℕ)
     → same_cell a b ≡ false
     → (in_some_cell v a row column && in_some_cell v b row column) ≡ false
-apart_cells v Nowhere b row column e = refl
-apart_cells v (Word x) Nowhere row column e = and-false (in_cell v x row column)
-apart_cells v (Word x) (Word y) row column e =
+apart_cells v None b row column e = refl
+apart_cells v (Some x) None row column e = and-false (in_cell v x row column)
+apart_cells v (Some x) (Some y) row column e =
     never _
     (λ h.
     let q = and_both (in_cell v x row column) (in_cell v y row column) h in
@@ -47,7 +46,7 @@ apart_cells v (Word x) (Word y) row column e =
     let second = eqb-true (shown_word v row (column / 2)) y (sym (in_cell-shows v y row column) ∙ q.1) in
     eqb-false x y e (sym first ∙ second))
 
-module _ (e : Fonts) (m : Memories) (look : Look) (a b : Cell) (f : List ℕ) (size : length f ≡ 1024) where
+module _ (e : Fonts) (m : Memories) (look : Look) (a b : Option ℕ) (f : List ℕ) (size : length f ≡ 1024) where
   pub cells_as_one :
       (n : ℕ) (g : List ℕ)
       → same_cell a b ≡ true

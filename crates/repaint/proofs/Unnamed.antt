@@ -1,7 +1,7 @@
 -- A byte that a transfer does not name is the same in the picture before and after it: every part that it depends on is.
+use Rattle.std.proofs.Common.{None, Option, Some}
 use Prim.Native.Nat.{ℕ, ◌/◌, ◌<◌}
 use mathlib.Core.Bool.{Bool, true, false, not, ◌&&◌, ◌||◌, true≢false, and-true}
-use mathlib.Core.Logic.{◌≢◌}
 use mathlib.Core.Path.{◌≡◌, refl, ◌∙◌, sym, ap, subst}
 use mathlib.Core.List.{List}
 use lib.Dec.{eqb}
@@ -14,13 +14,9 @@ use Rattle.table.specs.declared.Target.TheVariants.{Text, Glyph, Graphic}
 use Rattle.table.specs.declared.Instruction.{Instruction}
 use Rattle.table.specs.declared.Instruction.TheVariants.{Ignored, Clear, Home, EntryMode, Display, MoveCursor, MoveDisplay, FunctionSet, GlyphAddress, TextAddress, Standby, SetSr, ToggleReverse, Scroll, GraphicAddress}
 use Rattle.table.specs.Touches.{touches}
-use Rattle.controller.specs.declared.Waiting.{Waiting}
-use Rattle.controller.specs.declared.Waiting.TheVariants as waiting
 use Rattle.controller.specs.declared.Place.{Place}
 use Rattle.controller.specs.declared.View.{View}
 use Rattle.controller.specs.declared.Control.{Control}
-use Rattle.controller.specs.declared.Cell.{Cell}
-use Rattle.controller.specs.declared.Cell.TheVariants.{Nowhere, Word}
 use Rattle.controller.specs.declared.Region.{Region}
 use Rattle.controller.specs.declared.Region.TheVariants.{Nothing, Whole, Cells}
 use Rattle.deeds.specs.declared.Done.{Done}
@@ -50,7 +46,7 @@ module _ (v : View) (text : List ℕ) (row column : ℕ) where
 
   -- where neither cell has the place, the counter's word is not shown there, before or after
   neither-here :
-      (a b : Cell)
+      (a b : Option ℕ)
       → covers v text (Cells a b) row column ≡ false
       → at_counter b (shown_word v row (column / 2)) ≡ at_counter a (shown_word v row (column / 2))
   unfolding covers
@@ -62,18 +58,18 @@ module _ (v : View) (text : List ℕ) (row column : ℕ) where
 same_word :
     (v : View) (row column : ℕ) (low : Bool) (k next : ℕ)
     → eqb (shown_word v row (column / 2)) k ≡ false
-    → in_some_cell v (when low then Word (when low then next else k) else Nowhere) row column ≡ false
+    → in_some_cell v (when low then Some (when low then next else k) else None) row column ≡ false
     → eqb (shown_word v row (column / 2)) (when low then next else k) ≡ eqb (shown_word v row (column / 2)) k
 same_word v row column true k next e u = sym (in_cell-shows v next row column) ∙ u ∙ sym e
 same_word v row column false k next e u = refl
 
 -- where the target is not text the counter's word is nowhere
-neither : (t : Bool) (w x y : ℕ) → t ≡ false → at_counter (when t then Word x else Nowhere) w ≡ at_counter (when t then Word y else Nowhere) w
+neither : (t : Bool) (w x y : ℕ) → t ≡ false → at_counter (when t then Some x else None) w ≡ at_counter (when t then Some y else None) w
 neither true w x y e = absurd (true≢false e)
 neither false w x y e = refl
 
 -- where the same words are shown the counter's is
-at-text : (t : Bool) (w x y : ℕ) → eqb w x ≡ eqb w y → at_counter (when t then Word x else Nowhere) w ≡ at_counter (when t then Word y else Nowhere) w
+at-text : (t : Bool) (w x y : ℕ) → eqb w x ≡ eqb w y → at_counter (when t then Some x else None) w ≡ at_counter (when t then Some y else None) w
 at-text true w x y e = e
 at-text false w x y e = refl
 
@@ -81,7 +77,7 @@ at-text false w x y e = refl
 incomplete :
     (t low : Bool) (w next k : ℕ)
     → (t && low) ≡ false
-    → at_counter (when t then Word (when low then next else k) else Nowhere) w ≡ at_counter (when t then Word k else Nowhere) w
+    → at_counter (when t then Some (when low then next else k) else None) w ≡ at_counter (when t then Some k else None) w
 incomplete true true w next k e = absurd (true≢false e)
 incomplete true false w next k e = refl
 incomplete false low w next k e = refl
@@ -110,12 +106,12 @@ module _ (e : Fonts) (phase : Bool) (m : Memories) (c : Control) (row column : �
 
   -- a graphic address: a row alone moves nothing, its column is an address set
   graphic-relocated :
-      (w : Waiting) (a : ℕ)
+      (w : Option ℕ) (a : ℕ)
       → covers c.view m.text (when c.standby && true then Whole else address_names (graphic_addressed w c.place a).waiting c.place (graphic_addressed w c.place a)) row column ≡ false
       → byte_at e m (look_of phase (with_place (graphic_addressed w c.place a) (begun c))) row column ≡ byte_at e m (look_of phase c) row column
-  graphic-relocated waiting.Nothing a u =
+  graphic-relocated None a u =
       let n = not-whole c.view m.text row column (c.standby && true) Nothing u in
-      equal_parts_equal_bytes e m m (look_of phase c) (look_of phase (with_place (graphic_addressed waiting.Nothing c.place a) (begun c))) row column
+      equal_parts_equal_bytes e m m (look_of phase c) (look_of phase (with_place (graphic_addressed None c.place a) (begun c))) row column
       (record {
         view = refl;
         here = refl;
@@ -126,7 +122,7 @@ module _ (e : Fonts) (phase : Bool) (m : Memories) (c : Control) (row column : �
         cell = refl;
         graphic = refl;
       })
-  graphic-relocated (waiting.Row y) a u = relocated (graphic_addressed (waiting.Row y) c.place a) u
+  graphic-relocated (Some y) a u = relocated (graphic_addressed (Some y) c.place a) u
 
   all_named : {P : Type 0} (v : View) (text : List ℕ) (s : Bool) → covers v text (when s then Whole else Whole) row column ≡ false → P
   all_named v text s u = absurd (never-whole v text row column (not-whole v text row column s Whole u).1)
@@ -183,7 +179,7 @@ module _ (e : Fonts) (phase : Bool) (m : Memories) (c : Control) (row column : �
       → byte_at e (stored t c.place b m) (look_of phase (moved_on c)) row column ≡ byte_at e m (look_of phase c) row column
   unfolding stored covers moved moved_on cell_byte graphic_byte
   stored_unnamed b Text r l q s u =
-      let n = or_neither (in_cell c.view c.place.counter row column) (in_some_cell c.view (when c.place.low then Word (counter_after c.entry.id c.place) else Nowhere) row column) u in
+      let n = or_neither (in_cell c.view c.place.counter row column) (in_some_cell c.view (when c.place.low then Some (counter_after c.entry.id c.place) else None) row column) u in
       let k : eqb (shown_word c.view row (column / 2)) c.place.counter ≡ false = sym (in_cell-shows c.view c.place.counter row column) ∙ n.0 in
       moved-on-same (stored Text c.place b m) s
       (at-text (is_text c.place.target) _ _ _ (same_word c.view row column c.place.low c.place.counter _ k n.1))

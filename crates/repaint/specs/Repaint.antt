@@ -1,13 +1,11 @@
 -- Document 01, "Bytes named for repaint": painting gives each named byte the value it has in the new picture and keeps all others,
 -- also where the frame held something else before; the answer counts distinct bytes rewritten, whether or not their content differs.
 use Prim.{Unit}
-use Rattle.std.specs.Prelude.{ℕ, ◌+◌, ◌*◌, ◌-◌, ◌/◌, ◌%◌, ◌<◌, Bool, false, ◌&&◌, List, eqb, ltb}
+use Rattle.std.specs.Prelude.{ℕ, ◌+◌, ◌*◌, ◌-◌, ◌/◌, ◌%◌, ◌<◌, Bool, false, ◌&&◌, List, eqb, ltb, None, Option, Some}
 use Rattle.base.specs.Choice.{when◌then◌else◌}
 use Rattle.base.specs.Painting.{painted, count}
 use Rattle.base.specs.Layout.{Layout, on}
 use Rattle.controller.specs.declared.View.{View}
-use Rattle.controller.specs.declared.Cell.{Cell}
-use Rattle.controller.specs.declared.Cell.TheVariants.{Nowhere, Word}
 use Rattle.controller.specs.declared.Region.{Region}
 use Rattle.controller.specs.declared.Region.TheVariants.{Nothing, Whole, Cells, GlyphHalf, GraphicHalf}
 use Rattle.controller.specs.Memories.{Memories}
@@ -63,9 +61,9 @@ pub record ViewWithin (v : View) : Type 0 where
   pub shift : v.shift < 16
 
 -- the numbers that a region carries lie within the memories
-abbrev pub CellWithin : Cell → Type 0
-CellWithin Nowhere = Unit {0}
-CellWithin (Word word) = word < 64
+abbrev pub CellWithin : Option ℕ → Type 0
+CellWithin None = Unit {0}
+CellWithin (Some word) = word < 64
 
 abbrev pub RegionWithin : Region → Type 0
 RegionWithin Nothing = Unit {0}
@@ -75,10 +73,10 @@ RegionWithin (GlyphHalf word low) = word < 64
 RegionWithin (GraphicHalf row column low) = (row < 64) × (column < 16)
 
 -- whether two cells are one
-abbrev pub same_cell : Cell → Cell → Bool
-same_cell Nowhere b = false
-same_cell (Word a) Nowhere = false
-same_cell (Word a) (Word b) = eqb a b
+abbrev pub same_cell : Option ℕ → Option ℕ → Bool
+same_cell None b = false
+same_cell (Some a) None = false
+same_cell (Some a) (Some b) = eqb a b
 
 -- the rows of the glass that show a line of text follow one another: the line's first row would stand at row `run_top` of 64
 abbrev pub run_top : ℕ → ℕ → ℕ

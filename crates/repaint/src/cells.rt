@@ -1,130 +1,85 @@
-// A cell: its two columns on the visible rows of its line.
-ghost use Rattle.std.specs.Prelude.{◌≡◌, ◌+◌, ◌*◌, ◌<◌, ◌≤◌, length};
+// A cell: its two columns on the visible rows of its line. That a view's numbers lie in their ranges is asked for here and in `regions`, and
+// is no invariant of `Look`: a drawing makes one of any controls.
+ghost use Rattle.std.specs.Prelude.{◌≡◌, ◌+◌, ◌*◌, ◌<◌, ◌≤◌};
 ghost use Rattle.base.specs.Layout.{painted_on, rows};
-ghost use Rattle.controller.specs.Memories.{memories};
 ghost use Rattle.controller.specs.Named.{in_cell, in_some_cell};
-ghost use Rattle.picture.specs.Picture.{fonts, byte_at, wide};
+ghost use Rattle.picture.specs.Picture.{shown_at, wide};
 ghost use Rattle.picture.specs.Tiles.{shown_by, in_cell_row};
 ghost use Rattle.repaint.specs.Repaint.{ViewWithin, painting, paints_on, CellWithin, run_first, run_end, in_columns};
 
-use controller::Cell;
 use controller::places::row_place;
-use picture::Look;
+use picture::Scene;
 use picture::paint::paint_row;
-use tiles::{lay_tile, tile_pair};
+use std::ops::Range;
+use tiles::{tile_pair, word_tile};
 
-// The first row of the glass that shows a line of text, and the row after the last; both 0 where none shows it.
-#[tactic(auto, unfolding(crate::specs::Repaint::run_first))]
-fn run_first(scroll: u32, line: u32) -> u32
+// The rows of the glass that show a line of text: they follow one another. None where none shows it.
+#[tactic(auto, unfolding(crate::specs::Repaint::run_first, crate::specs::Repaint::run_end))]
+fn run(scroll: u32, line: u32) -> Range<u32>
     requires { (scroll < 64) × (line < 4) }
-    ensures { result ≡ run_first scroll line }
+    ensures first { result.start ≡ run_first scroll line }
+    ensures end { result.end ≡ run_end scroll line }
 {
     let top = (16 * line + 64 - scroll) % 64;
-    if top < 32 { top } else { 0 }
-}
-
-#[tactic(auto, unfolding(crate::specs::Repaint::run_end))]
-fn run_end(scroll: u32, line: u32) -> u32
-    requires { (scroll < 64) × (line < 4) }
-    ensures { result ≡ run_end scroll line }
-{
-    let top = (16 * line + 64 - scroll) % 64;
-    if top < 16 {
-        return top + 16;
-    }
     if top < 32 {
-        return 32;
+        top..(top + 16).min(32)
+    } else {
+        0..top.saturating_sub(48)
     }
-    if top < 48 {
-        return 0;
-    }
-    top - 48
 }
 
 // One row of one cell: the row painter is lent its two bytes, a part from the middle of the frame.
-fn paint_cell_row(
-    tile: &[u8; 32],
-    graphic: &[u8; 2048],
-    look: Look,
-    row: u32,
-    cell: u32,
-    frame: &mut [u8],
-)
-    requires { (row < 32) × (cell < 16) × (length frame.old ≡ 1024) }
-    ensures { frame.new ≡ painted_on wide (in_cell_row row cell) (shown_by tile.now graphic.now look) frame.old }
+fn paint_cell_row(scene: &Scene, tile: &[u8; 32], row: u32, cell: u32, frame: &mut [u8; 1024])
+    requires { (row < 32) × (cell < 16) }
+    ensures { frame.new ≡ painted_on wide (in_cell_row row cell) (shown_by tile.now scene.now.graphic.now scene.now.look) frame.old }
 {
-    let pair = tile_pair(tile, graphic, look, row, cell);
+    let pair = tile_pair(scene, tile, row, cell);
     let start = row_place(row, 2 * cell);
     let end = start + 2;
     paint_row(&mut frame[start..end], pair);
 }
 
-// A cell on the rows from `first` up to `end`.
+// A cell on some rows.
 fn paint_rows(
+    scene: &Scene,
     tile: &[u8; 32],
-    graphic: &[u8; 2048],
-    look: Look,
     cell: u32,
-    first: u32,
-    end: u32,
-    frame: &mut [u8],
+    run: Range<u32>,
+    frame: &mut [u8; 1024],
 ) -> u32
-    requires { (cell < 16) × (first ≤ end) × (end ≤ 32) × (length frame.old ≡ 1024) }
-    ensures { painting result frame.new ≡ paints_on wide (rows first end (in_columns cell)) (shown_by tile.now graphic.now look) frame.old }
+    requires { (cell < 16) × (run.start ≤ run.end) × (run.end ≤ 32) }
+    ensures { painting result frame.new ≡ paints_on wide (rows run.start run.end (in_columns cell)) (shown_by tile.now scene.now.graphic.now scene.now.look) frame.old }
 {
     let mut count: u32 = 0;
-    let mut row = first;
-    while row < end {
-        paint_cell_row(tile, graphic, look, row, cell, frame);
+    for row in run {
+        paint_cell_row(scene, tile, row, cell, frame);
         count += 2;
-        row += 1;
     }
     count
 }
 
 // The cell of a text word: looked up once, and only where its line shows.
-fn paint_word(
-    text: &[u8; 128],
-    glyph: &[u8; 128],
-    graphic: &[u8; 2048],
-    look: Look,
-    word: u32,
-    frame: &mut [u8],
-    half: &[u8],
-    full: &[u8],
-) -> u32
-    requires { ViewWithin look.view × (word < 64) × (length frame.old ≡ 1024) × (length half.now ≡ 2048) }
-    ensures { painting result frame.new ≡ paints_on wide (in_cell look.view word) (byte_at (fonts half.now full.now) (memories text.now glyph.now graphic.now) look) frame.old }
+fn paint_word(scene: &Scene, word: u32, frame: &mut [u8; 1024]) -> u32
+    requires { ViewWithin scene.now.look.view × (word < 64) }
+    ensures { painting result frame.new ≡ paints_on wide (in_cell scene.now.look.view word) (shown_at scene.now) frame.old }
 {
-    let scroll = look.view.scroll as u32;
-    let line = word / 16;
-    let first = run_first(scroll, line);
-    let end = run_end(scroll, line);
-    if end == 0 {
+    let view = scene.look.view;
+    let run = run(view.scroll as u32, word / 16);
+    if run.is_empty() {
         return 0;
     }
-    let mut tile = [0u8; 32];
-    lay_tile(text, glyph, look, word, &mut tile, half, full);
-    let cell = (word + 16 - look.view.shift as u32) % 16;
-    paint_rows(&tile, graphic, look, cell, first, end, frame)
+    let tile = word_tile(scene, word);
+    let cell = (word + 16 - view.shift as u32) % 16;
+    paint_rows(scene, &tile, cell, run, frame)
 }
 
 // A cell, where there is one.
-pub fn paint_cell(
-    text: &[u8; 128],
-    glyph: &[u8; 128],
-    graphic: &[u8; 2048],
-    look: Look,
-    cell: Cell,
-    frame: &mut [u8],
-    half: &[u8],
-    full: &[u8],
-) -> u32
-    requires { ViewWithin look.view × CellWithin cell × (length frame.old ≡ 1024) × (length half.now ≡ 2048) }
-    ensures { painting result frame.new ≡ paints_on wide (in_some_cell look.view cell) (byte_at (fonts half.now full.now) (memories text.now glyph.now graphic.now) look) frame.old }
+pub fn paint_cell(scene: &Scene, cell: Option<u8>, frame: &mut [u8; 1024]) -> u32
+    requires { ViewWithin scene.now.look.view × CellWithin cell }
+    ensures { painting result frame.new ≡ paints_on wide (in_some_cell scene.now.look.view cell) (shown_at scene.now) frame.old }
 {
     match cell {
-        Cell::Nowhere => 0,
-        Cell::Word(word) => paint_word(text, glyph, graphic, look, word as u32, frame, half, full),
+        None => 0,
+        Some(word) => paint_word(scene, u32::from(word), frame),
     }
 }

@@ -3,113 +3,47 @@
 // error, where it fails, and is never taken for the end of the capture.
 #![tactic(auto)]
 
-ghost use Rattle.std.specs.Prelude.{◌+◌, ◌/◌, ◌≤◌, false, ◌≡◌, length};
+ghost use Rattle.std.specs.Prelude.{◌+◌, ◌/◌, ◌≡◌, IfOk, length};
 ghost use Rattle.calls.specs.State.{Valid};
 ghost use Rattle.panel.specs.Handed.{state_of};
-ghost use Rattle.printed.specs.Text.{Counts};
+ghost use Rattle.playback.specs.declared.Halt.TheVariants as halt;
 
 use events::{Made, Numbering};
-use host::{fail, word_at, word_count};
+use host::{Filled, fail, fill, say, word_at, word_count};
 use panel::Panel;
-use playback::Stop;
+use picture::lent::Lent;
+use playback::{Halt, Stop};
+use refusals::Refusal;
 use std::io;
-use std::io::Read;
 
-// Whether the panel is to have time, and whether there are other arguments, which has been said.
-#[derive(Clone, Copy)]
-struct Asked {
-    time: bool,
-    refused: bool,
-}
-
-// How many bytes came, and what a read failed with, where one did.
-#[derive(Clone, Copy)]
-struct Filled {
-    count: usize,
-    failure: Option<io::Error>,
-}
-
-// How far the replay came with a part, how many bytes the part had, and whether reading it or writing its lines failed.
+// How far the replay came with a part, and what was read for it.
 #[derive(Clone, Copy)]
 struct Came {
     stop: Stop,
-    bytes: usize,
-    unread: bool,
-    unwritten: bool,
+    read: Filled,
 }
 
-// A text for standard error. Where it cannot be written, nothing can be said of that.
-fn say(rt: &HostRuntime, text: &[u8]) {
-    let _ = rt.stderr().write_all(text);
+// A parallel panel, with time or without.
+fn made(time: bool) -> Made {
+    Made {
+        parallel: true,
+        time,
+        numbering: Numbering::By96,
+    }
 }
 
-// The one argument that there is.
-fn from_arguments(rt: &HostRuntime) -> Asked {
+// The panel that the words ask for, by the one argument that there is; none where there are others, which has been said.
+fn from_arguments(rt: &HostRuntime) -> Option<Made> {
     let count = word_count(rt);
+    if count < 2 {
+        return Some(made(false));
+    }
     let mut room = [0u8; 4096];
-    let word = word_at(rt, 1, &mut room);
-    let time = count == 2 && word == b"--time".as_slice();
-    let refused = count > 1 && !time;
-    if refused {
-        say(rt, b"replay: the only argument is --time\n");
-    }
-    Asked { time, refused }
-}
-
-// One read into the buffer, from a place on.
-fn read_some(rt: &HostRuntime, buffer: &mut [u8], from: usize) -> Filled
-    requires { from ≤ length buffer.old }
-    ensures { from + result.count ≤ length buffer.new }
-{
-    match rt.stdin().read(&mut buffer[from..]) {
-        Ok(count) => Filled {
-            count,
-            failure: None,
-        },
-        Err(error) => Filled {
-            count: 0,
-            failure: Some(error),
-        },
-    }
-}
-
-// Reads until the buffer is full, the input ends or a read fails. A record that a failed read cut short is left out: the
-// capture does not end there.
-fn fill(rt: &HostRuntime, buffer: &mut [u8]) -> Filled
-    ensures { Counts result.count buffer.new }
-{
-    let mut done: usize = 0;
-    while done < buffer.len() {
-        let some = read_some(rt, buffer, done);
-        if let Some(error) = some.failure {
-            fail(&rt.stderr(), b"replay: standard input", error);
-            return Filled {
-                count: done - done % 4,
-                failure: some.failure,
-            };
-        }
-        let n = some.count;
-        if n == 0 {
-            return Filled {
-                count: done,
-                failure: None,
-            };
-        }
-        done += n;
-    }
-    Filled {
-        count: done,
-        failure: None,
-    }
-}
-
-// Writes a text to standard output, and answers whether that was done.
-fn print(rt: &HostRuntime, text: &[u8]) -> bool {
-    match rt.stdout().write_all(text) {
-        Ok(()) => true,
-        Err(error) => {
-            fail(&rt.stderr(), b"replay: standard output", error);
-            false
+    match word_at(rt, 1, &mut room) {
+        Some(b"--time") if count == 2 => Some(made(true)),
+        _ => {
+            say(rt, b"replay: the only argument is --time\n");
+            None
         }
     }
 }
@@ -121,85 +55,69 @@ fn large_buffer() -> [u8; 65536]
     [0; 65536]
 }
 
+// Standard output did not take what there was for it.
+fn unwritten(rt: &HostRuntime, error: io::Error) {
+    fail(&rt.stderr(), b"replay: standard output", error);
+}
+
 // One part of the capture: 4,096 bytes, so that no record lies across two parts, or what is left. Its lines, of at most 29
 // bytes each, fit into 65,536 bytes.
-fn part(rt: &HostRuntime, panel: Panel, place: usize, frame: &mut [u8; 1024]) -> Came
+fn part(rt: &HostRuntime, panel: Panel, place: usize, frame: &mut [u8; 1024]) -> io::Result<Came>
     requires { Valid (state_of panel) }
-    ensures valid { Valid (state_of result.stop.panel) }
-    ensures through { result.stop.number ≡ 0 → result.stop.full ≡ false → result.stop.place ≡ place + result.bytes / 4 }
+    ensures valid { IfOk result (λ came. Valid (state_of came.stop.panel)) }
+    ensures through { IfOk result (λ came. came.stop.halt ≡ halt.End → came.stop.place ≡ place + came.read.count / 4) }
 {
-    let half = [0u8; 2048];
-    let full = [0u8; 0];
+    let lent = Lent {
+        half: &[0; 2048],
+        full: &[],
+        phase: false,
+    };
     let mut input = [0u8; 4096];
-    let filled = fill(rt, &mut input);
-    let n = filled.count;
-    let unread = filled.failure.is_some();
-    let mut text = large_buffer();
-    let stop = playback::transcribe(
-        panel,
-        place,
-        &input[..n],
-        frame,
-        &half,
-        &full,
-        false,
-        &mut text,
-    );
-    let length = stop.filled;
-    let written = print(rt, &text[..length]);
-    Came {
-        stop,
-        bytes: n,
-        unread,
-        unwritten: !written,
+    let read = fill(&mut rt.stdin(), &mut input);
+    if let Some(error) = read.failure {
+        fail(&rt.stderr(), b"replay: standard input", error);
     }
+    let mut text = large_buffer();
+    let capture = &input[..read.count];
+    let stop = playback::transcribe(panel, place, capture, frame, &lent, &mut text);
+    rt.stdout().write_all(&text[..stop.filled])?;
+    Ok(Came { stop, read })
 }
 
 // The last line. The program's status says nothing: that a record was refused is said on standard error too, for `./run`.
-fn print_last(rt: &HostRuntime, place: usize, number: u8) {
+fn print_last(rt: &HostRuntime, place: usize, answer: Result<(), Refusal>) {
     let mut text = [0u8; 48];
-    let n = printed::put_last(&mut text, place, number);
-    print(rt, &text[..n]);
-    if number != 0 {
+    let n = printed::put_last(&mut text, place, refusals::number(&answer));
+    if let Err(error) = rt.stdout().write_all(&text[..n]) {
+        unwritten(rt, error);
+    }
+    if answer.is_err() {
         say(rt, b"replay: stopped\n");
     }
 }
 
 // Part after part. A refusal stops the replay also where the read after it failed.
 fn main(rt: HostRuntime) {
-    let asked = from_arguments(&rt);
-    if asked.refused {
+    let Some(made) = from_arguments(&rt) else {
         return;
-    }
+    };
     let mut frame = [0u8; 1024];
-    let mut panel = Panel::fresh(Made {
-        parallel: true,
-        time: asked.time,
-        numbering: Numbering::By96,
-    });
+    let mut panel = Panel::fresh(made);
     let mut place: usize = 0;
     loop {
-        let came = part(&rt, panel, place, &mut frame);
-        let stop = came.stop;
-        if came.unwritten {
-            return;
+        let came = match part(&rt, panel, place, &mut frame) {
+            Ok(came) => came,
+            Err(error) => return unwritten(&rt, error),
+        };
+        panel = came.stop.panel;
+        place = came.stop.place;
+        match came.stop.halt {
+            Halt::Refused(refusal) => return print_last(&rt, place, Err(refusal)),
+            // That has been said.
+            _ if came.read.failure.is_some() => return,
+            Halt::Full => return say(&rt, b"replay: too many records\n"),
+            Halt::End if came.read.count < 4096 => return print_last(&rt, place, Ok(())),
+            Halt::End => {}
         }
-        if stop.number != 0 {
-            print_last(&rt, stop.place, stop.number);
-            return;
-        }
-        if came.unread {
-            return;
-        }
-        if stop.full {
-            say(&rt, b"replay: too many records\n");
-            return;
-        }
-        if came.bytes < 4096 {
-            print_last(&rt, stop.place, 0);
-            return;
-        }
-        panel = stop.panel;
-        place = stop.place;
     }
 }

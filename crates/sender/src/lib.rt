@@ -2,22 +2,19 @@
 #![tactic(auto)]
 
 ghost use Rattle.std.specs.Prelude.{◌≡◌};
+ghost use Rattle.refusals.specs.Numbers.{answer_number};
 ghost use Rattle.sender.specs.Sender.{header_byte, three_bytes, leaving, sent};
 
-// Puts the bytes that carry a write to a register into the first three of the buffer, and answers 0; or refuses a shorter
-// buffer with 4 and leaves it alone.
+use refusals::Refusal;
+
+// Puts the bytes that carry a write to a register into the first three of the buffer; or refuses a shorter buffer and leaves it alone.
 #[tactic(auto, unfolding(crate::specs::Sender::sent))]
-pub fn send(register: bool, byte: u8, buffer: &mut [u8]) -> u8
-    ensures { leaving result buffer.new ≡ sent register byte buffer.old }
+pub fn send(register: bool, byte: u8, buffer: &mut [u8]) -> Result<(), Refusal>
+    ensures { leaving (answer_number result) buffer.new ≡ sent register byte buffer.old }
 {
-    if buffer.len() < 3 {
-        return 4;
-    }
-    let bytes = three_bytes(register, byte);
-    buffer[0] = bytes[0];
-    buffer[1] = bytes[1];
-    buffer[2] = bytes[2];
-    0
+    let first = buffer.first_chunk_mut::<3>().ok_or(Refusal::Buffer)?;
+    *first = three_bytes(register, byte);
+    Ok(())
 }
 
 // The three bytes that carry a write to a register over the serial link.

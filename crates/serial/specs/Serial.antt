@@ -1,5 +1,5 @@
 -- Document 01, "Links": serial, bit by bit.
-use Rattle.std.specs.Prelude.{ℕ, ◌+◌, ◌*◌, ◌%◌, Bool, true, false, ltb}
+use Rattle.std.specs.Prelude.{ℕ, ◌+◌, ◌*◌, ◌%◌, Bool, true, false, ltb, Option, Some, None}
 use Rattle.base.specs.Choice.{when◌then◌else◌}
 use Rattle.serial.specs.declared.Header.{Header}
 use Rattle.serial.specs.declared.Header.TheVariants.{Begun, WithRead, WithRegister}
@@ -8,7 +8,6 @@ use Rattle.serial.specs.declared.Sync.TheVariants.{Lost, Body}
 use Rattle.serial.specs.declared.Receiver.{Receiver}
 use Rattle.serial.specs.declared.Receiver.TheVariants.{Inside, Outside}
 use Rattle.serial.specs.declared.Received.{Received}
-use Rattle.serial.specs.declared.Received.TheVariants.{Nothing, Byte}
 use Rattle.serial.specs.declared.Heard.{Heard}
 
 -- five ones in a row always begin a header, outside a header; what was half received is dropped
@@ -47,18 +46,22 @@ body_bit (Body register seen byte) bit =
     else when before_last seen then Body register (seen + 1) byte
     else Body register 0 0
 
+-- a byte to a register
+abbrev pub byte_to : Bool → ℕ → Received
+byte_to register byte = record { register = register; byte = byte }
+
 -- what a bit completes: a byte, acting on the last zero
-unfoldable pub completed : Sync → Bool → Received
-completed sync true = Nothing
-completed Lost false = Nothing
+unfoldable pub completed : Sync → Bool → Option Received
+completed sync true = None
+completed Lost false = None
 completed (Body register seen byte) false =
-    when data_next seen then Nothing
-    else when before_last seen then Nothing
-    else Byte register byte
+    when data_next seen then None
+    else when before_last seen then None
+    else Some (byte_to register byte)
 
 -- one bit, with chip select high; a fifth one begins a header, also where it would lose sync
 unfoldable pub heard : Receiver → Bool → Heard
-heard (Inside header) bit = record { receiver = header_bit header bit; received = Nothing }
+heard (Inside header) bit = record { receiver = header_bit header bit; received = None }
 heard (Outside run sync) bit = record { receiver = counted run bit (body_bit sync bit); received = completed sync bit }
 
 -- idle: out of sync, and no run of ones

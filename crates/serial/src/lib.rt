@@ -13,7 +13,7 @@ pub enum Header {
     WithRegister { read: bool, register: bool },
 }
 
-// Outside a header: out of sync, or in a body, with the bits seen of the next byte and the data among them.
+// Outside a header: out of sync, as the document says it and so no Option of a body; or in a body, with the bits seen of the next byte and the data among them.
 #[derive(Clone, Copy)]
 pub enum Sync {
     Lost,
@@ -27,18 +27,18 @@ pub enum Receiver {
     Outside { run: u8, sync: Sync },
 }
 
-// What a bit completes: nothing, or a byte that is to act.
+// A byte that is to act, and the register that it is for.
 #[derive(Clone, Copy)]
-pub enum Received {
-    Nothing,
-    Byte { register: bool, byte: u8 },
+pub struct Received {
+    pub register: bool,
+    pub byte: u8,
 }
 
-// What a bit leaves.
+// What a bit leaves: where the receiver stands then, and the byte that the bit completed, if one.
 #[derive(Clone, Copy)]
 pub struct Heard {
     pub receiver: Receiver,
-    pub received: Received,
+    pub received: Option<Received>,
 }
 
 // One serial bit, with chip select high.
@@ -49,7 +49,7 @@ pub fn hear(receiver: Receiver, bit: bool) -> Heard
     match receiver {
         Receiver::Inside(header) => Heard {
             receiver: header_bit(header, bit),
-            received: Received::Nothing,
+            received: None,
         },
         Receiver::Outside { run, sync } => Heard {
             receiver: counted(run, bit, body_bit(sync, bit)),
@@ -98,10 +98,7 @@ fn header_bit(header: Header, bit: bool) -> Receiver
 fn after_header(read: bool, register: bool, third: bool) -> Sync
     ensures { result ≡ after_header read register third }
 {
-    if read {
-        return Sync::Lost;
-    }
-    if third {
+    if read || third {
         return Sync::Lost;
     }
     body(register, 0, 0)
@@ -149,26 +146,23 @@ fn body_bit(sync: Sync, bit: bool) -> Sync
 
 // The byte that the bit completes, if it is the last zero.
 #[tactic(auto, unfolding(crate::specs::Serial::completed))]
-fn completed(sync: Sync, bit: bool) -> Received
+fn completed(sync: Sync, bit: bool) -> Option<Received>
     ensures { result ≡ completed sync bit }
 {
     if bit {
-        return Received::Nothing;
+        return None;
     }
     match sync {
-        Sync::Lost => Received::Nothing,
+        Sync::Lost => None,
         Sync::Body {
             register,
             seen,
             byte,
         } => {
-            if seen % 8 < 4 {
-                return Received::Nothing;
+            if seen % 8 < 4 || seen < 15 {
+                return None;
             }
-            if seen < 15 {
-                return Received::Nothing;
-            }
-            Received::Byte { register, byte }
+            Some(Received { register, byte })
         }
     }
 }

@@ -2,31 +2,16 @@
 ghost use Rattle.std.specs.Prelude.{◌<◌};
 
 use controller::View;
-use missing::{Lacks, band_row, missing_at};
-use printed::digit;
+use missing::{Code, band_row, missing_at};
 use std::io;
 
 // The line of one code: which it is, and where its cell stands on the glass.
-fn print_line(
-    rt: &HostRuntime,
-    lead: u8,
-    trail: u8,
-    row: u32,
-    end: u32,
-    cell: u32,
-) -> io::Result<()>
+fn print_line(rt: &HostRuntime, code: Code, row: u32, end: u32, cell: u32) -> io::Result<()>
     requires { row < end }
 {
-    let code = [
-        digit(lead / 16),
-        digit(lead % 16),
-        digit(trail / 16),
-        digit(trail % 16),
-    ];
+    let Code { lead, trail } = code;
     let last = end - 1;
-    rt.write_all(b"no glyph for ")?;
-    rt.write_all(&code)?;
-    println!(rt; "h: cell {cell}, rows {row} to {last}")
+    println!(rt; "no glyph for {lead:02X}{trail:02X}h: cell {cell}, rows {row} to {last}")
 }
 
 // The cells of the line that stands on the glass from `row` up to `end`, from left to right; answers whether a glyph is missing.
@@ -42,12 +27,9 @@ fn list_line(
 {
     let mut some = false;
     for cell in 0..16 {
-        match missing_at(text, view, row, cell, length) {
-            Lacks::Nothing => {}
-            Lacks::Code { lead, trail } => {
-                some = true;
-                print_line(rt, lead, trail, row, end, cell)?;
-            }
+        if let Some(code) = missing_at(text, view, row, cell, length) {
+            some = true;
+            print_line(rt, code, row, end, cell)?;
         }
     }
     Ok(some)
@@ -64,10 +46,8 @@ pub(crate) fn list(
     for band in 0..3 {
         let row = band_row(view, band);
         let end = band_row(view, band + 1);
-        if row < end {
-            if list_line(rt, text, view, row, end, length)? {
-                some = true;
-            }
+        if row < end && list_line(rt, text, view, row, end, length)? {
+            some = true;
         }
     }
     if some {

@@ -4,6 +4,6 @@ use mathlib.Core.Path.{◌≡◌, refl}
 use mir.Val.{bool_byte}
 use Rattle.state_bytes.specs.Packed.{flag_byte}
 
-pub flag-byte : (on : Bool) → bool_byte on ≡ flag_byte on
-flag-byte true = refl
-flag-byte false = refl
+pub flag_made : (on : Bool) → bool_byte on ≡ flag_byte on
+flag_made true = refl
+flag_made false = refl

@@ -1,4 +1,5 @@
 -- Controls in range are those that their bytes spell, so drawing from the bytes of a state draws the state.
+use Rattle.std.proofs.Common.{None, Option, Some}
 use Prim.Native.Nat.{ℕ, ◌+◌, ◌*◌, ◌<◌}
 use mathlib.Core.Bool.{Bool, true, false}
 use mathlib.Core.List.{List, [], ◌∷◌}
@@ -10,8 +11,6 @@ use Rattle.events.specs.declared.Numbering.{Numbering}
 use Rattle.events.specs.declared.Numbering.TheVariants.{By96, By160}
 use Rattle.table.specs.declared.Target.{Target}
 use Rattle.table.specs.declared.Target.TheVariants.{Text, Glyph, Graphic}
-use Rattle.controller.specs.declared.Waiting.{Waiting}
-use Rattle.controller.specs.declared.Waiting.TheVariants.{Nothing, Row}
 use Rattle.controller.specs.declared.Control.{Control}
 use Rattle.controller.specs.State.{numbering_of, limit, RowInRange, InRange}
 use Rattle.state_bytes.specs.Packed.{flag, target_from, counter_from, waiting_from, place_from, view_from, unpacked, flag_byte, target_byte, numbering_byte, waits_byte, waiting_byte, high_byte, low_byte, packed}
@@ -34,9 +33,9 @@ counter-read Text n h = mod-eq_of_lt h
 counter-read Glyph n h = mod-eq_of_lt h
 counter-read Graphic n h = mod-eq_of_lt h
 
-waiting-read : (w : Waiting) → RowInRange w → waiting_from (flag (waits_byte w)) (waiting_byte w) ≡ w
-waiting-read Nothing h = refl
-waiting-read (Row y) h = rw (mod-eq_of_lt h)
+waiting-read : (w : Option ℕ) → RowInRange w → waiting_from (flag (waits_byte w)) (waiting_byte w) ≡ w
+waiting-read None h = refl
+waiting-read (Some y) h = rw (mod-eq_of_lt h)
 
 -- four lines are the four that are looked at
 lines-read : (l : List Bool) → length l ≡ 4 → get_or l 0 false ∷ get_or l 1 false ∷ get_or l 2 false ∷ get_or l 3 false ∷ [] ≡ l

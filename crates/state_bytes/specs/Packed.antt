@@ -1,14 +1,12 @@
 -- The controls as bytes: target, counter, row, half next, dummy due, whether a row waits and which, I/D, S, display, cursor, blink,
 -- DL, RE, G, SR, standby, scroll, shift, the four reversed lines, whether there is time, the time that remains in two bytes, the high one
 -- first, and the numbering. A flag is bit 0 of its byte, a number the bits it has room for.
-use Rattle.std.specs.Prelude.{ℕ, ◌+◌, ◌*◌, ◌/◌, ◌%◌, min, Bool, false, List, [], ◌∷◌, get_or, eqb}
+use Rattle.std.specs.Prelude.{ℕ, ◌+◌, ◌*◌, ◌/◌, ◌%◌, min, Bool, false, List, [], ◌∷◌, get_or, eqb, None, Option, Some}
 use Rattle.base.specs.Choice.{when◌then◌else◌}
 use Rattle.events.specs.declared.Numbering.{Numbering}
 use Rattle.events.specs.declared.Numbering.TheVariants.{By96, By160}
 use Rattle.table.specs.declared.Target.{Target}
 use Rattle.table.specs.declared.Target.TheVariants.{Text, Glyph, Graphic}
-use Rattle.controller.specs.declared.Waiting.{Waiting}
-use Rattle.controller.specs.declared.Waiting.TheVariants.{Nothing, Row}
 use Rattle.controller.specs.declared.Place.{Place}
 use Rattle.controller.specs.declared.View.{View}
 use Rattle.controller.specs.declared.Time.{Time}
@@ -27,8 +25,8 @@ counter_from Text byte = byte % 64
 counter_from Glyph byte = byte % 64
 counter_from Graphic byte = byte % 16
 
-abbrev pub waiting_from : Bool → ℕ → Waiting
-waiting_from waits row = when waits then Row (row % 64) else Nothing
+abbrev pub waiting_from : Bool → ℕ → Option ℕ
+waiting_from waits row = when waits then Some (row % 64) else None
 
 -- the time that remains has 16 bits here, and more than a panel's longest counts as that
 abbrev pub time_from : ℕ → ℕ → ℕ → Time
@@ -81,14 +79,14 @@ abbrev pub numbering_byte : Numbering → ℕ
 numbering_byte By96 = 0
 numbering_byte By160 = 1
 
-abbrev pub waits_byte : Waiting → ℕ
-waits_byte Nothing = 0
-waits_byte (Row y) = 1
+abbrev pub waits_byte : Option ℕ → ℕ
+waits_byte None = 0
+waits_byte (Some y) = 1
 
 -- where no row waits, its byte is 0
-abbrev pub waiting_byte : Waiting → ℕ
-waiting_byte Nothing = 0
-waiting_byte (Row y) = y
+abbrev pub waiting_byte : Option ℕ → ℕ
+waiting_byte None = 0
+waiting_byte (Some y) = y
 
 abbrev pub line_byte : View → ℕ → ℕ
 line_byte v line = flag_byte (get_or v.reversed line false)

@@ -1,102 +1,48 @@
 // A state as bytes, in the order of `packed` and `link_packed`.
 ghost use Rattle.std.specs.Prelude.{◌≡◌};
-ghost use Rattle.state_bytes.specs.Packed.{target_byte, numbering_byte, waits_byte, waiting_byte, high_byte, low_byte, packed};
+ghost use Rattle.state_bytes.specs.Packed.{packed};
 ghost use Rattle.state_bytes.specs.LinkPacked.{open_bytes, pairing_packed, inside_bytes, header_packed, outside_packed, receiver_packed, link_packed};
 
-use controller::{Control, Waiting};
-use events::Numbering;
+use controller::Control;
 use links::{Link, Pairing};
 use serial::{Header, Receiver, Sync};
-use table::Target;
-
-fn target_byte(target: Target) -> u8
-    ensures { result ≡ target_byte target }
-{
-    match target {
-        Target::Text => 0,
-        Target::Glyph => 1,
-        Target::Graphic => 2,
-    }
-}
-
-fn numbering_byte(numbering: Numbering) -> u8
-    ensures { result ≡ numbering_byte numbering }
-{
-    match numbering {
-        Numbering::By96 => 0,
-        Numbering::By160 => 1,
-    }
-}
-
-fn waits_byte(waiting: Waiting) -> u8
-    ensures { result ≡ waits_byte waiting }
-{
-    match waiting {
-        Waiting::Nothing => 0,
-        Waiting::Row(_) => 1,
-    }
-}
-
-fn waiting_byte(waiting: Waiting) -> u8
-    ensures { result ≡ waiting_byte waiting }
-{
-    match waiting {
-        Waiting::Nothing => 0,
-        Waiting::Row(row) => row,
-    }
-}
-
-fn high_byte(number: u16) -> u8
-    ensures { result ≡ high_byte number }
-{
-    (number / 256) as u8
-}
-
-fn low_byte(number: u16) -> u8
-    ensures { result ≡ low_byte number }
-{
-    (number % 256) as u8
-}
 
 // The controls as 27 bytes.
+#[tactic(auto, unfolding(crate::specs::Packed::packed), using(crate::proofs::Flags::flag_made))]
 pub fn pack(control: Control) -> [u8; 27]
     ensures { result ≡ packed control }
 {
-    let place = control.place;
-    let target = place.target;
-    let waiting = place.waiting;
-    let view = control.view;
-    let reversed = view.reversed;
-    let numbering = view.numbering;
-    let remaining = control.time.remaining;
+    let waiting = control.place.waiting;
+    let [first, second, third, fourth] = control.view.reversed;
+    let [high, low] = control.time.remaining.to_be_bytes();
     [
-        target_byte(target),
-        place.counter,
-        place.row,
-        place.low as u8,
-        place.dummy as u8,
-        waits_byte(waiting),
-        waiting_byte(waiting),
-        control.entry.id as u8,
-        control.entry.s as u8,
-        control.shown.display as u8,
-        control.shown.cursor as u8,
-        control.shown.blink as u8,
-        control.function.dl as u8,
-        control.function.re as u8,
-        control.function.g as u8,
-        control.sr as u8,
-        control.standby as u8,
-        view.scroll,
-        view.shift,
-        reversed[0] as u8,
-        reversed[1] as u8,
-        reversed[2] as u8,
-        reversed[3] as u8,
-        control.time.timed as u8,
-        high_byte(remaining),
-        low_byte(remaining),
-        numbering_byte(numbering),
+        control.place.target as u8,
+        control.place.counter,
+        control.place.row,
+        u8::from(control.place.low),
+        u8::from(control.place.dummy),
+        u8::from(waiting.is_some()),
+        waiting.unwrap_or(0),
+        u8::from(control.entry.id),
+        u8::from(control.entry.s),
+        u8::from(control.shown.display),
+        u8::from(control.shown.cursor),
+        u8::from(control.shown.blink),
+        u8::from(control.function.dl),
+        u8::from(control.function.re),
+        u8::from(control.function.g),
+        u8::from(control.sr),
+        u8::from(control.standby),
+        control.view.scroll,
+        control.view.shift,
+        u8::from(first),
+        u8::from(second),
+        u8::from(third),
+        u8::from(fourth),
+        u8::from(control.time.timed),
+        high,
+        low,
+        control.view.numbering as u8,
     ]
 }
 
@@ -111,15 +57,16 @@ fn pairing_bytes(pairing: Pairing) -> [u8; 10]
 {
     match pairing {
         Pairing::Empty => open_bytes(0, 0),
-        Pairing::Upper { register, upper } => open_bytes(1 + register as u8, upper % 16 * 16),
-        Pairing::Lower { register, lower } => open_bytes(3 + register as u8, lower % 16 * 16),
+        Pairing::Upper { register, upper } => open_bytes(1 + u8::from(register), upper % 16 * 16),
+        Pairing::Lower { register, lower } => open_bytes(3 + u8::from(register), lower % 16 * 16),
     }
 }
 
 fn inside_bytes(seen: u8, read: bool, register: bool) -> [u8; 10]
     ensures { result ≡ inside_bytes seen read register }
 {
-    [1, 0, 0, 1, 0, seen, read as u8, register as u8, 0, 0]
+    let [read, register] = [u8::from(read), u8::from(register)];
+    [1, 0, 0, 1, 0, seen, read, register, 0, 0]
 }
 
 fn header_bytes(header: Header) -> [u8; 10]
@@ -141,7 +88,7 @@ fn outside_bytes(run: u8, sync: Sync) -> [u8; 10]
             register,
             seen,
             byte,
-        } => [1, 0, 0, 2, run, 0, 0, register as u8, seen, byte],
+        } => [1, 0, 0, 2, run, 0, 0, u8::from(register), seen, byte],
     }
 }
 

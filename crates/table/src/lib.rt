@@ -8,7 +8,7 @@ ghost use Rattle.table.specs.Touches.{touches};
 ghost use Rattle.table.specs.Table.{said, basic_column, extended_column, moving, function_set, if_sr0, if_sr1};
 
 // The memory that the address counter speaks of.
-#[derive(Clone, Copy)]
+#[derive(Clone, Copy, PartialEq, Eq)]
 pub enum Target {
     Text,
     Glyph,
@@ -136,8 +136,7 @@ fn moving(target: Target, byte: u8) -> Instruction
     }
     match target {
         Target::Text => Instruction::MoveCursor { right },
-        Target::Glyph => Instruction::Ignored,
-        Target::Graphic => Instruction::Ignored,
+        Target::Glyph | Target::Graphic => Instruction::Ignored,
     }
 }
 
@@ -180,15 +179,11 @@ pub fn touches(instruction: Instruction) -> Touch
         Instruction::Ignored => Touch::Nothing,
         Instruction::Clear => Touch::AllAndText,
         Instruction::Home => Touch::All,
-        Instruction::EntryMode { id: _, s: _ } => Touch::All,
-        Instruction::Display {
-            display: _,
-            cursor: _,
-            blink: _,
-        } => Touch::All,
-        Instruction::MoveCursor { right: _ } => Touch::Counter,
-        Instruction::MoveDisplay { right: _ } => Touch::All,
-        Instruction::FunctionSet { dl: _, re: _, g: _ } => Touch::All,
+        Instruction::EntryMode { .. } => Touch::All,
+        Instruction::Display { .. } => Touch::All,
+        Instruction::MoveCursor { .. } => Touch::Counter,
+        Instruction::MoveDisplay { .. } => Touch::All,
+        Instruction::FunctionSet { .. } => Touch::All,
         Instruction::GlyphAddress(_) => Touch::Counter,
         Instruction::TextAddress(_) => Touch::Counter,
         Instruction::Standby => Touch::All,

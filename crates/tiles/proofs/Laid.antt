@@ -1,12 +1,12 @@
 -- A line's tiles: laid, marked and reversed, handed out row by row and overlaid, they give the picture.
-use Prim.Native.Nat.{ℕ, ◌+◌, ◌*◌, ◌-◌, ◌/◌, ◌%◌, ◌<◌, ◌≤◌}
+use Prim.Native.Nat.{ℕ, zero, suc, ◌+◌, ◌*◌, ◌-◌, ◌/◌, ◌%◌, ◌<◌, ◌≤◌}
 use mathlib.Core.Path.{◌≡◌, refl, sym, ap, ap₂, ◌∙◌}
 use mathlib.Core.Logic.{◌≢◌, ⊎_elim}
 use mathlib.Core.Bool.{Bool, true, false, ◌&&◌, ◌||◌}
-use mathlib.Core.List.{List}
+use mathlib.Core.List.{List, ◌∷◌}
 use native.Mathlib.Omega.{arith}
 use native.Mathlib.Nat.{add-zero}
-use lib.ListN.{length, get_or, set}
+use lib.ListN.{length, get_or, set, replicate}
 use lib.Dec.{eqb}
 use lib.Bits.{bit_xor}
 use borrow.Author.Tests.{eqb-true, eqb-false, eq-eqb}
@@ -14,16 +14,17 @@ use Rattle.base.specs.Choice.{when◌then◌else◌}
 use Rattle.base.specs.Lists.{upto}
 use Rattle.base.specs.Painting.{painted, everywhere, between}
 use Rattle.base.specs.Layout.{on, painted_on}
-use Rattle.base.proofs.Tests.{alike, and_both, or_either, or_else}
+use Rattle.base.proofs.Tests.{alike, or_either, or_else}
 use Rattle.base.proofs.Lists.{get_or-upto, upto_cong}
-use Rattle.base.proofs.Painting.{painted-named, painted_same, painted_cong, painted-twice, painted_upto, as_long}
-use Rattle.base.proofs.Loops.{in_between, of-between, paint_step}
+use Rattle.base.proofs.Painting.{painted-named, painted_same, painted-none, painted_cong, painted-twice, painted_upto, as_long}
+use Rattle.base.proofs.Loops.{in_between, paint_step, pair-painted}
 use Rattle.base.proofs.Copies.{one_further, not_yet}
 use Rattle.picture.specs.declared.Look.{Look}
+use Rattle.picture.specs.declared.Scene.{Scene}
 use Rattle.controller.specs.Memories.{Memories, half}
 use Rattle.controller.specs.Glass.{shown_row, shown_word}
-use Rattle.picture.specs.Picture.{Fonts, right, cell_byte, graphic_byte, filled, inverted, overlaid, byte_over, byte_at, wide, picture}
-use Rattle.picture.specs.Tiles.{counter_word, word_dots, line_word, counter_tile, underlined, turned, tile_byte, by_tile, from_tiles, in_rows, shown_by, pair_by}
+use Rattle.picture.specs.Picture.{Fonts, fonts_in, right, cell_byte, graphic_byte, filled, inverted, overlaid, byte_over, byte_at, wide, picture}
+use Rattle.picture.specs.Tiles.{counter_word, word_dots, line_word, underlined, turned, tile_byte, tile_at, by_tile, from_tiles, in_rows, shown_by, pair_by}
 use Rattle.picture.specs.declared.TwoBytes.{TwoBytes}
 use Rattle.picture.proofs.Bytes.{counter-here}
 use Rattle.picture.proofs.Unread.{half-right}
@@ -33,14 +34,6 @@ inverted-upto : (P : ℕ → Bool) (f : ℕ → ℕ) (n : ℕ) → painted P (λ
 inverted-upto P f n =
     painted_upto P (λ i. 0xFF - get_or (upto n f) i 0) f n
     ∙ upto_cong n _ _ (λ i l. ap (λ (x : ℕ). when P i then 0xFF - x else f i) (get_or-upto n f i l))
-
--- stage over stage
-pub stages : (cursor blink reverse : Bool) (at end : ℕ) (t u v w : List ℕ)
-    → u ≡ underlined cursor at t
-    → v ≡ turned blink at (at + 32) u
-    → w ≡ turned reverse 0 end v
-    → w ≡ turned reverse 0 end (turned blink at (at + 32) (underlined cursor at t))
-stages cursor blink reverse at end t u v w a b c = rw (c, b, a)
 
 -- marked and reversed
 marked : (n : ℕ) (f : ℕ → ℕ) (P Q R : ℕ → Bool) → (
@@ -53,18 +46,16 @@ marked n f P Q R =
 -- one cell further: its tile begins at a multiple of 32
 pub words_turn : (d : ℕ → ℕ → ℕ) (cell : ℕ) (f g h : List ℕ)
     → g ≡ painted (between 0 (32 * cell) everywhere) (by_tile d) f
-    → h ≡ painted (between (32 * cell) (32 * cell + 32) everywhere) (λ i. d cell (i - 32 * cell)) g
-    → (length h ≡ length g) × (h ≡ painted (between 0 (32 * (cell + 1)) everywhere) (by_tile d) f)
+    → h ≡ painted (between (32 * cell) (32 * cell + 32) everywhere) (λ i. get_or (upto 32 (d cell)) (i - 32 * cell) 0) g
+    → h ≡ painted (between 0 (32 * (cell + 1)) everywhere) (by_tile d) f
 words_turn d cell f g h c e =
-    let next : 32 * (cell + 1) ≡ 32 * cell + 32 = omega arith in (
-      as_long _ _ g h e,
-      rw next (paint_step everywhere (by_tile d) f g h 0 (32 * cell) (32 * cell + 32) (omega arith) (omega arith) c
-          (e ∙ painted_cong _ _ _ (by_tile d) g (λ i l. refl)
-          (λ i l t. let q = in_between (32 * cell) (32 * cell + 32) everywhere i t in
-          let a : cell ≡ i / 32 = omega arith in
-          let b : i - 32 * cell ≡ i % 32 = omega arith in
-          ap₂ d a b))),
-    )
+    let next : 32 * (cell + 1) ≡ 32 * cell + 32 = omega arith in
+    rw next (paint_step everywhere (by_tile d) f g h 0 (32 * cell) (32 * cell + 32) (omega arith) (omega arith) c
+    (e ∙ painted_cong _ _ _ (by_tile d) g (λ i l. refl)
+    (λ i l t. let q = in_between (32 * cell) (32 * cell + 32) everywhere i t in
+    let a : cell ≡ i / 32 = omega arith in
+    let b : i - 32 * cell ≡ i % 32 = omega arith in
+    get_or-upto 32 (d cell) (i - 32 * cell) (omega arith) ∙ ap₂ d a b)))
 
 -- the two bytes of a cell that a row takes
 pub taken-left : (tiles : List ℕ) (y row cell : ℕ) → cell < 16 → get_or tiles (32 * cell + 2 * y) 0 ≡ from_tiles tiles y (32 * row + 2 * cell)
@@ -106,155 +97,40 @@ over-turn graphic f g from to n l c =
     one_further (λ i. bit_xor (get_or f i 0) (get_or graphic (from + (i - to)) 0)) f g to (to + n) (to + (n + 1)) (omega arith) c _ l (omega arith)
     (ap₂ bit_xor (not_yet _ f g to (to + n) l c) (ap (λ (i : ℕ). get_or graphic i 0) k))
 
--- the cell of a line that shows the counter's word
-cell-back : (k shift counter : ℕ) → k < 16 → shift < 256 → (k + shift) % 16 ≡ counter % 16 → (counter % 16 + 256 - shift) % 16 ≡ k
-cell-back k shift counter h l e = omega arith
-
-cell_forth : (shift counter : ℕ) → shift < 256 → ((counter % 16 + 256 - shift) % 16 + shift) % 16 ≡ counter % 16
-cell_forth shift counter h = omega arith
-
-counter-on-line : (shift line counter i : ℕ) → shift < 256 → i < 512
-    → eqb (line_word shift line (i / 32)) counter
-    ≡ (eqb (counter / 16) line && between (32 * ((counter % 16 + 256 - shift) % 16)) (32 * ((counter % 16 + 256 - shift) % 16) + 32) everywhere i)
-counter-on-line shift line counter i h l =
-    let at = 32 * ((counter % 16 + 256 - shift) % 16) in
-    alike (eqb (line_word shift line (i / 32)) counter) (eqb (counter / 16) line && between at (at + 32) everywhere i)
-    (λ e. let w : 16 * line + (i / 32 + shift) % 16 ≡ counter = eqb-true _ _ e in
-    let a : counter / 16 ≡ line = omega arith in
-    let r : (i / 32 + shift) % 16 ≡ counter % 16 = omega arith in
-    let k : (counter % 16 + 256 - shift) % 16 ≡ i / 32 = cell-back (i / 32) shift counter (omega arith) h r in
-    rw (eq-eqb (counter / 16) line a, k) (of-between (32 * (i / 32)) (32 * (i / 32) + 32) everywhere i (omega arith) (omega arith) refl))
-    (λ e. let q = and_both (eqb (counter / 16) line) (between at (at + 32) everywhere i) e in
-    let a : counter / 16 ≡ line = eqb-true _ _ q.0 in
-    let b = in_between at (at + 32) everywhere i q.1 in
-    let k : i / 32 ≡ (counter % 16 + 256 - shift) % 16 = omega arith in
-    let r : (i / 32 + shift) % 16 ≡ counter % 16 = rw k (cell_forth shift counter h) in
-    eq-eqb (line_word shift line (i / 32)) counter (omega arith))
-
 -- glyph row 15 is the last two bytes of a tile
-last_row : (k i : ℕ) → (eqb i (32 * k + 30) || eqb i (32 * k + 30 + 1)) ≡ (between (32 * k) (32 * k + 32) everywhere i && eqb (i % 32 / 2) 15)
-last_row k i =
-    alike (eqb i (32 * k + 30) || eqb i (32 * k + 30 + 1)) (between (32 * k) (32 * k + 32) everywhere i && eqb (i % 32 / 2) 15)
+last_row : (j : ℕ) → (eqb j 30 || eqb j 31) ≡ eqb (j / 2) 15
+last_row j =
+    alike (eqb j 30 || eqb j 31) (eqb (j / 2) 15)
     (λ e. ⊎_elim
-    (λ (d : eqb i (32 * k + 30) ≡ true). let z : i ≡ 32 * k + 30 = eqb-true _ _ d in inside (omega arith) (omega arith) (omega arith))
-    (λ (d : eqb i (32 * k + 30 + 1) ≡ true). let z : i ≡ 32 * k + 30 + 1 = eqb-true _ _ d in inside (omega arith) (omega arith) (omega arith))
+    (λ (d : eqb j 30 ≡ true). let z : j ≡ 30 = eqb-true _ _ d in eq-eqb (j / 2) 15 (omega arith))
+    (λ (d : eqb j 31 ≡ true). let z : j ≡ 31 = eqb-true _ _ d in eq-eqb (j / 2) 15 (omega arith))
     (or_either _ _ e))
-    (λ e. let q = and_both (between (32 * k) (32 * k + 32) everywhere i) (eqb (i % 32 / 2) 15) e in
-    let b = in_between (32 * k) (32 * k + 32) everywhere i q.0 in
-    let r : i % 32 / 2 ≡ 15 = eqb-true _ _ q.1 in
-    or_else (eqb i (32 * k + 30)) (eqb i (32 * k + 30 + 1))
-    (λ d. let n : i ≢ 32 * k + 30 = eqb-false _ _ d in eq-eqb i (32 * k + 30 + 1) (omega arith)))
-  where
-    inside : 32 * k ≤ i → i < 32 * k + 32 → i % 32 / 2 ≡ 15 → (between (32 * k) (32 * k + 32) everywhere i && eqb (i % 32 / 2) 15) ≡ true
-    inside a b r = rw (of-between (32 * k) (32 * k + 32) everywhere i a b refl, eq-eqb (i % 32 / 2) 15 r)
+    (λ e. let r : j / 2 ≡ 15 = eqb-true _ _ e in or_else (eqb j 30) (eqb j 31) (λ d. let n : j ≢ 30 = eqb-false _ _ d in eq-eqb j 31 (omega arith)))
 
-and-true : (p : Bool) → (p && true) ≡ p
-and-true true = refl
-and-true false = refl
+pub last_set : (t : List ℕ) → length t ≡ 32 → set (set t 30 0xFF) 31 0xFF ≡ underlined true t
+last_set t k =
+    pair-painted 30 (λ j. 0xFF) t (omega arith) ∙ painted_same (λ j. eqb j 30 || eqb j 31) (λ j. eqb (j / 2) 15) (λ j. 0xFF) t (λ j l. last_row j)
 
-and_swap : (h w x : Bool) → ((h && w) && x) ≡ ((h && x) && w)
-and_swap false w x = refl
-and_swap true true true = refl
-and_swap true true false = refl
-and_swap true false true = refl
-and_swap true false false = refl
+and_in_turn : (h w x : Bool) → ((h && w) && x) ≡ (h && (w && x))
+and_in_turn true w x = refl
+and_in_turn false w x = refl
 
-and-middle : (h w c r : Bool) → ((h && w) && (c && r)) ≡ ((h && c) && (w && r))
-and-middle false w c r = refl
-and-middle true true true r = refl
-and-middle true true false r = refl
-and-middle true false true r = refl
-and-middle true false false r = refl
+-- where nothing is to be marked
+pub unmarked : (t : List ℕ) → t ≡ turned false (underlined false t)
+unmarked t = sym (painted-none (λ j. false) _ (underlined false t) (λ j l. refl) ∙ painted-none (λ j. false) _ t (λ j l. refl))
 
-module _ (e : Fonts) (text glyph : List ℕ) (look : Look) where
-  -- byte j of a word's tile, by where the word is
-  by-counter : (word j : ℕ) (here : Bool) → word < 64 → eqb word (counter_word look.counter) ≡ here
-      → tile_byte e text glyph look word j
-      ≡ inverted (get_or look.view.reversed (word / 16) false)
-      (inverted (here && look.blink) (filled (here && (look.cursor && eqb (j / 2) 15)) (word_dots e text glyph look.view.numbering word j)))
-  unfolding tile_byte
-  by-counter word j here l e = rw (← counter-here look.counter word l, e)
-
-  module _ (line : ℕ) (shifts : look.view.shift < 256) (lines : line < 4) where
-    abbrev start : ℕ
-    start = counter_tile (counter_word look.counter) look.view.shift
-
-    abbrev here : Bool
-    here = eqb (counter_word look.counter / 16) line
-
-    line-byte : (i : ℕ) → i < 512
-        → inverted (get_or look.view.reversed line false && between 0 512 everywhere i)
-        (inverted ((here && look.blink) && between start (start + 32) everywhere i)
-        (filled ((here && look.cursor) && (eqb i (start + 30) || eqb i (start + 30 + 1)))
-        (word_dots e text glyph look.view.numbering (line_word look.view.shift line (i / 32)) (i % 32))))
-        ≡ tile_byte e text glyph look (line_word look.view.shift line (i / 32)) (i % 32)
-    line-byte i l =
-        let word = line_word look.view.shift line (i / 32) in
-        let there = between start (start + 32) everywhere i in
-        let q : word / 16 ≡ line = omega arith in
-        sym (by-counter word (i % 32) (here && there) (omega arith) (counter-on-line look.view.shift line (counter_word look.counter) i shifts l)
-        ∙ rw (
-          q,
-          of-between 0 512 everywhere i (omega arith) l refl,
-          and-true (get_or look.view.reversed line false),
-          and_swap here there look.blink,
-          and-middle here there look.cursor (eqb (i % 32 / 2) 15),
-          last_row ((counter_word look.counter % 16 + 256 - look.view.shift) % 16) i,
-        ))
-
-    pub line_marked : (t w : List ℕ) (at counter : ℕ) (cursor blink : Bool)
-        → t ≡ upto 512 (by_tile (λ cell j. word_dots e text glyph look.view.numbering (line_word look.view.shift line cell) j))
-        → counter ≡ counter_word look.counter
-        → at ≡ counter_tile counter look.view.shift
-        → cursor ≡ (eqb (counter / 16) line && look.cursor)
-        → blink ≡ (eqb (counter / 16) line && look.blink)
-        → w ≡ turned (get_or look.view.reversed line false) 0 512 (turned blink at (at + 32) (underlined cursor at t))
-        → w ≡ upto 512 (by_tile (λ cell j. tile_byte e text glyph look (line_word look.view.shift line cell) j))
-    line_marked t w at counter cursor blink laid is-counter is_at is-cursor is-blink is =
-        (rw (is-cursor, is-blink, is_at, is-counter, laid) at is)
-        ∙ marked 512 _ (λ i. (here && look.cursor) && (eqb i (start + 30) || eqb i (start + 30 + 1)))
-        (λ i. (here && look.blink) && between start (start + 32) everywhere i)
-        (λ i. get_or look.view.reversed line false && between 0 512 everywhere i)
-        ∙ upto_cong 512 _ _ (λ i l. line-byte i l)
-
-  -- one tile
-  module _ (word : ℕ) (words : word < 64) where
-    abbrev marks : Bool
-    marks = eqb word (counter_word look.counter)
-
-    tile_byte_lem : (j : ℕ) → j < 32
-        → inverted (get_or look.view.reversed (word / 16) false && between 0 32 everywhere j)
-        (inverted ((marks && look.blink) && between 0 32 everywhere j)
-        (filled ((marks && look.cursor) && (eqb j 30 || eqb j 31)) (word_dots e text glyph look.view.numbering word j)))
-        ≡ tile_byte e text glyph look word j
-    tile_byte_lem j l =
-        let r : (eqb j 30 || eqb j 31) ≡ (between 0 32 everywhere j && eqb (j % 32 / 2) 15) = last_row 0 j in
-        let m : j % 32 ≡ j = omega arith in
-        let inside : between 0 32 everywhere j ≡ true = of-between 0 32 everywhere j (omega arith) l refl in
-        sym (by-counter word j marks words refl
-        ∙ rw (
-          r,
-          m,
-          inside,
-          and-true (get_or look.view.reversed (word / 16) false),
-          and-true (marks && look.blink),
-          ← and-middle marks true look.cursor (eqb (j / 2) 15),
-          and-true marks,
-        ))
-
-    pub tile_marked : (t w : List ℕ) (counter : ℕ) (cursor blink : Bool)
-        → t ≡ upto 32 (word_dots e text glyph look.view.numbering word)
-        → counter ≡ counter_word look.counter
-        → cursor ≡ (eqb word counter && look.cursor)
-        → blink ≡ (eqb word counter && look.blink)
-        → w ≡ turned (get_or look.view.reversed (word / 16) false) 0 32 (turned blink 0 32 (underlined cursor 0 t))
-        → w ≡ upto 32 (tile_byte e text glyph look word)
-    tile_marked t w counter cursor blink laid is-counter is-cursor is-blink is =
-        (rw (is-cursor, is-blink, is-counter, laid) at is)
-        ∙ marked 32 _ (λ i. (marks && look.cursor) && (eqb i 30 || eqb i 31))
-        (λ i. (marks && look.blink) && between 0 32 everywhere i)
-        (λ i. get_or look.view.reversed (word / 16) false && between 0 32 everywhere i)
-        ∙ upto_cong 32 _ _ (λ i l. tile_byte_lem i l)
+-- the dots of a word marked and reversed
+pub tile_marked : (s : Scene) (word : ℕ) (t v w : List ℕ) (here : Bool) → word < 64
+    → t ≡ upto 32 (word_dots (fonts_in s) s.text.now s.glyphs.memory.now s.look.view.numbering word)
+    → here ≡ eqb word (counter_word s.look.counter)
+    → v ≡ turned (here && s.look.blink) (underlined (here && s.look.cursor) t)
+    → w ≡ turned (get_or s.look.view.reversed (word / 16) false) v
+    → w ≡ upto 32 (tile_at s word)
+unfolding tile_byte
+tile_marked s word t v w here k laid is-here a b =
+    rw (b, a, laid)
+    (marked 32 _ (λ j. (here && s.look.cursor) && eqb (j / 2) 15) (λ j. here && s.look.blink) (λ j. get_or s.look.view.reversed (word / 16) false)
+    ∙ upto_cong 32 _ _ (λ j l. rw (and_in_turn here s.look.cursor (eqb (j / 2) 15), is-here, counter-here s.look.counter word k)))
 
 -- the rows of a band show one line, one after the other
 row_in_band : (scroll row r end s : ℕ) → s ≡ (row + scroll) % 64 → row ≤ r → r < end → end + s % 16 ≤ row + 16 → (r + scroll) % 64 ≡ s + (r - row)
@@ -301,14 +177,23 @@ graphic-of s row i h =
     let a : i % 32 ≡ 2 * (i % 32 / 2) + i % 32 % 2 = omega arith in
     omega arith
 
+zeros : (n : ℕ) → replicate n 0 ≡ upto n (λ i. 0)
+unfolding upto
+zeros zero = refl
+zeros (suc n) = ap (λ (l : List ℕ). 0 ∷ l) (zeros n)
+
 alight : (d : Bool) (x : ℕ) → d ≡ false → (when d then 0x00 else x) ≡ x
 alight d x h = rw h
 
 module _ (e : Fonts) (m : Memories) (look : Look) where
   -- where nothing shows
-  pub dark-picture : look.dark ≡ true → upto 1024 (λ i. 0) ≡ picture wide e m look
+  dark-picture : look.dark ≡ true → upto 1024 (λ i. 0) ≡ picture wide e m look
   unfolding picture byte_at byte_over
   dark-picture h = upto_cong 1024 _ _ (λ i l. rw h)
+
+  -- a frame of zeros is that
+  pub dark-filled : (f : List ℕ) → look.dark ≡ true → length f ≡ 1024 → replicate (length f) 0 ≡ picture wide e m look
+  dark-filled f h k = zeros (length f) ∙ ap (λ (n : ℕ). upto n (λ i. 0)) k ∙ dark-picture h
 
   -- a byte of the picture is the tile's, with the graphic over it
   byte_by_tile : (row column : ℕ) → byte_at e m look row column

@@ -29,12 +29,7 @@ pub fn busy_bit(control: Control) -> u8
 pub fn is_lost(control: Control, transfer: Transfer) -> bool
     ensures { result ≡ lost control transfer }
 {
-    match transfer {
-        Transfer::Instruct(_) => is_busy(control),
-        Transfer::Write(_) => is_busy(control),
-        Transfer::Status => false,
-        Transfer::Read => is_busy(control),
-    }
+    is_busy(control) && !matches!(transfer, Transfer::Status)
 }
 
 // In microseconds, by what the instruction touches: an ignored code touches nothing, and only clear touches the text.
@@ -43,8 +38,7 @@ fn instruction_cost(touch: Touch) -> u16
 {
     match touch {
         Touch::Nothing => 0,
-        Touch::Counter => 72,
-        Touch::All => 72,
+        Touch::Counter | Touch::All => 72,
         Touch::AllAndText => 1600,
     }
 }
@@ -69,27 +63,21 @@ pub fn cost(control: Control, transfer: Transfer) -> u16
 pub fn charged(time: Time, cost: u16) -> Time
     ensures { result ≡ charged cost time }
 {
-    if !time.timed {
+    if !time.timed || cost == 0 {
         return time;
     }
-    if cost == 0 {
-        return time;
+    Time {
+        remaining: cost,
+        ..time
     }
-    let mut next = time;
-    next.remaining = cost;
-    next
 }
 
 // The remaining time falls to 0 and no lower.
 pub fn elapsed(time: Time, eights: u8) -> Time
     ensures { result ≡ elapsed eights time }
 {
-    let passed = eights as u16 * 8;
-    let mut next = time;
-    if time.remaining <= passed {
-        next.remaining = 0;
-        return next;
+    Time {
+        remaining: time.remaining.saturating_sub(u16::from(eights) * 8),
+        ..time
     }
-    next.remaining = time.remaining - passed;
-    next
 }

@@ -9,13 +9,21 @@ ghost use Rattle.controller.specs.State.{InRange};
 ghost use Rattle.calls.specs.State.{Valid};
 ghost use Rattle.panel.specs.Handed.{state_of};
 
+use calls::Kept;
 use controller::Control;
 use events::{Made, Numbering, Transfer};
-use links::Link;
 use panel::Panel;
+use picture::lent::Lent;
 use std::rt::Env;
 
 const TIMES: u32 = 1000000;
+
+// What each call is lent.
+const LENT: Lent<'static> = Lent {
+    half: &[0; 2048],
+    full: &[0; 32],
+    phase: false,
+};
 
 // Cheap beside what is timed, also on a processor that divides by a loop.
 fn mixed(sum: u32, with: usize) -> u32 {
@@ -66,75 +74,80 @@ fn graphic_turn(i: u32) -> Transfer {
     }
 }
 
-// The transfer of turn i.
-fn turn(what: u8, i: u32) -> Transfer {
-    match what {
-        b'i' => images_turn(i),
-        b'g' => graphic_turn(i),
-        _ => text_turn(i),
+// What depends on the answers of a step that is done so many times.
+fn summed<F: FnMut(u32) -> usize>(mut step: F) -> u32
+    requires { F.IsAlwaysCallable step }
+{
+    let mut sum: u32 = 0;
+    for i in 0..TIMES {
+        sum = mixed(sum, step(i));
+    }
+    sum
+}
+
+// A parallel panel, without time.
+fn made() -> Made {
+    Made {
+        parallel: true,
+        time: false,
+        numbering: Numbering::By96,
     }
 }
 
 fn by_value() -> u32 {
-    let mut panel = Panel::fresh(Made {
-        parallel: true,
-        time: false,
-        numbering: Numbering::By96,
-    });
+    let mut panel = Panel::fresh(made());
     let mut frame = [0u8; 1024];
-    let half = [0u8; 2048];
-    let full = [0u8; 32];
-    let mut sum: u32 = 0;
-    let mut i: u32 = 0;
-    while i < TIMES {
-        let given = text_turn(i);
-        let outcome = panel.transfer(given, &mut frame, &half, &full, false);
-        let next = outcome.panel;
-        panel = next;
-        sum = mixed(sum, outcome.count);
-        i += 1;
-    }
-    sum
+    summed(
+        |i|
+            requires { Valid (state_of panel) }
+            ensures { Valid (state_of panel.exit) }
+        {
+            match panel.transfer(text_turn(i), &mut frame, &LENT) {
+                Ok(outcome) => {
+                    panel = outcome.panel;
+                    outcome.count
+                }
+                Err(_) => 0,
+            }
+        },
+    )
 }
 
-#[tactic(auto, using(deeds::proofs::Kept::fresh_in_range))]
-fn on_lent(what: u8) -> u32 {
+fn on_lent<F: Fn(u32) -> Transfer>(turn: F) -> u32
+    requires { (f : _) (i : _) → F.pre f i }
+{
     let mut text = [0x20u8; 128];
     let mut glyph = [0u8; 128];
     let mut graphic = [0u8; 2048];
-    let mut control = Control::fresh(Made {
-        parallel: true,
-        time: false,
-        numbering: Numbering::By96,
-    });
-    let mut link = links::idle(true);
+    let mut kept = Kept {
+        control: Control::fresh(made()),
+        link: links::idle(true),
+    };
     let mut frame = [0u8; 1024];
-    let half = [0u8; 2048];
-    let full = [0u8; 32];
-    let mut sum: u32 = 0;
-    let mut i: u32 = 0;
-    while i < TIMES {
-        let given = turn(what, i);
-        let answer = lent_calls::transfer(
-            &mut text,
-            &mut glyph,
-            &mut graphic,
-            control,
-            link,
-            given,
-            &mut frame,
-            &half,
-            &full,
-            false,
-        );
-        let next = answer.control;
-        control = next;
-        let after = answer.link;
-        link = after;
-        sum = mixed(sum, answer.count);
-        i += 1;
-    }
-    sum
+    summed(
+        |i|
+            requires in_range { InRange kept.control }
+            requires given { F.pre turn i }
+            ensures { InRange kept.exit.control }
+        {
+            let answer = lent_calls::transfer(
+                &mut text,
+                &mut glyph,
+                &mut graphic,
+                kept,
+                turn(i),
+                &mut frame,
+                &LENT,
+            );
+            match answer {
+                Ok(outcome) => {
+                    kept = outcome.kept;
+                    outcome.count
+                }
+                Err(_) => 0,
+            }
+        },
+    )
 }
 
 fn copied(panel: Panel, i: u32) -> Panel {
@@ -145,65 +158,44 @@ fn copied(panel: Panel, i: u32) -> Panel {
 }
 
 fn copies() -> u32 {
-    let mut panel = Panel::fresh(Made {
-        parallel: true,
-        time: false,
-        numbering: Numbering::By96,
-    });
-    let mut sum: u32 = 0;
-    let mut i: u32 = 0;
-    while i < TIMES {
-        let next = copied(panel, i);
-        panel = next;
-        sum = mixed(sum, panel.text[3] as usize);
-        i += 1;
-    }
-    sum
+    let mut panel = Panel::fresh(made());
+    summed(|i| {
+        panel = copied(panel, i);
+        panel.text[3] as usize
+    })
 }
 
 fn draws() -> u32 {
-    let panel = Panel::fresh(Made {
-        parallel: true,
-        time: false,
-        numbering: Numbering::By96,
-    });
+    let panel = Panel::fresh(made());
     let mut frame = [0u8; 1024];
-    let half = [0u8; 2048];
-    let full = [0u8; 32];
-    let text = panel.text;
-    let glyph = panel.glyph;
-    let graphic = panel.graphic;
     let mut control = panel.control;
     control.shown.display = true;
-    let mut sum: u32 = 0;
-    let mut i: u32 = 0;
-    while i < TIMES {
-        let number = drawing::draw(
-            &text,
-            &glyph,
-            &graphic,
+    summed(|i| {
+        let lent = Lent {
+            phase: i % 2 == 1,
+            ..LENT
+        };
+        let drawn = drawing::draw(
+            &panel.text,
+            &panel.glyph,
+            &panel.graphic,
             control,
             &mut frame,
-            &half,
-            &full,
-            i % 2 == 1,
+            &lent,
         );
-        sum = mixed(sum, number as usize);
-        i += 1;
-    }
-    sum
+        usize::from(refusals::number(&drawn))
+    })
 }
 
 fn main(rt: HostRuntime) {
     let mut word = [0u8; 16];
     // A longer word leaves its beginning there.
     let _ = rt.arg(1, &mut word);
-    let first = word[0];
-    let sum = match first {
+    let sum = match word[0] {
         b'v' => by_value(),
-        b't' => on_lent(first),
-        b'i' => on_lent(first),
-        b'g' => on_lent(first),
+        b't' => on_lent(text_turn),
+        b'i' => on_lent(images_turn),
+        b'g' => on_lent(graphic_turn),
         b'c' => copies(),
         b'd' => draws(),
         _ => 0,

@@ -10,68 +10,46 @@ fn pairing(kind: u8, bits: u8) -> Pairing
     ensures { result ≡ pairing_from kind bits }
 {
     let four = bits / 16;
-    if kind == 0 {
-        return Pairing::Empty;
-    }
-    if kind == 1 {
-        return Pairing::Upper {
-            register: false,
+    match kind {
+        0 => Pairing::Empty,
+        1 | 2 => Pairing::Upper {
+            register: kind == 2,
             upper: four,
-        };
-    }
-    if kind == 2 {
-        return Pairing::Upper {
-            register: true,
-            upper: four,
-        };
-    }
-    if kind == 3 {
-        return Pairing::Lower {
-            register: false,
+        },
+        _ => Pairing::Lower {
+            register: kind != 3,
             lower: four,
-        };
-    }
-    Pairing::Lower {
-        register: true,
-        lower: four,
+        },
     }
 }
 
 fn header(seen: u8, read: bool, register: bool) -> Header
     ensures { result ≡ header_from seen read register }
 {
-    if seen == 0 {
-        return Header::Begun;
+    match seen {
+        0 => Header::Begun,
+        1 => Header::WithRead(read),
+        _ => Header::WithRegister { read, register },
     }
-    if seen == 1 {
-        return Header::WithRead(read);
-    }
-    Header::WithRegister { read, register }
 }
 
 #[tactic(auto, unfolding(state_bytes::specs::LinkPacked::receiver_from))]
 fn receiver(bytes: &[u8; 10]) -> Receiver
     ensures { result ≡ receiver_from bytes.now }
 {
-    let run = bytes[4];
-    let register = flag(bytes[7]);
-    if bytes[3] == 0 {
-        return Receiver::Outside {
-            run,
+    match bytes[3] {
+        0 => Receiver::Outside {
+            run: bytes[4],
             sync: Sync::Lost,
-        };
-    }
-    if bytes[3] == 1 {
-        let read = flag(bytes[6]);
-        let header = header(bytes[5], read, register);
-        return Receiver::Inside(header);
-    }
-    Receiver::Outside {
-        run,
-        sync: Sync::Body {
-            register,
-            seen: bytes[8],
-            byte: bytes[9],
+        },
+        1 => Receiver::Inside(header(bytes[5], flag(bytes[6]), flag(bytes[7]))),
+        _ => Receiver::Outside {
+            run: bytes[4],
+            sync: Sync::Body {
+                register: flag(bytes[7]),
+                seen: bytes[8],
+                byte: bytes[9],
+            },
         },
     }
 }
@@ -81,7 +59,8 @@ pub fn unpack_link(bytes: &[u8; 10]) -> Link
     ensures { result ≡ unpacked_link bytes.now }
 {
     if flag(bytes[0]) {
-        return Link::Serial(receiver(bytes));
+        Link::Serial(receiver(bytes))
+    } else {
+        Link::Parallel(pairing(bytes[1], bytes[2]))
     }
-    Link::Parallel(pairing(bytes[1], bytes[2]))
 }

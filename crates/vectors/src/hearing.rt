@@ -2,7 +2,7 @@
 // readings 11 and 12, the read that it warns of, and wires on which a receiver that hunts, counts or keeps sync wrongly
 // would receive something else.
 use crate::saying::{print, print_byte};
-use serial::{Received, Receiver};
+use serial::Receiver;
 
 // A receiver, and whether it has received anything yet.
 #[derive(Clone, Copy)]
@@ -45,87 +45,60 @@ fn damaged_wires(rt: &HostRuntime) {
 // A write as the sender puts it into a buffer.
 fn sent(rt: &HostRuntime, register: bool, byte: u8) {
     let mut buffer = [0u8; 3];
-    sender::send(register, byte, &mut buffer);
+    let _ = sender::send(register, byte, &mut buffer);
     wire(rt, &buffer);
 }
 
 fn wire(rt: &HostRuntime, bytes: &[u8]) {
-    end(rt, heard(rt, idle(), bytes));
+    let mut ear = Ear::idle();
+    ear.hear(rt, bytes);
+    ear.end(rt);
 }
 
 // Chip select goes low between the bytes before and after.
 fn cut(rt: &HostRuntime, before: &[u8], after: &[u8]) {
-    let ear = heard(rt, idle(), before);
-    let high = ear.receiver;
-    let low = Ear {
-        receiver: serial::select_low(high),
-        any: ear.any,
-    };
-    end(rt, heard(rt, low, after));
+    let mut ear = Ear::idle();
+    ear.hear(rt, before);
+    ear.receiver = serial::select_low(ear.receiver);
+    ear.hear(rt, after);
+    ear.end(rt);
 }
 
-fn idle() -> Ear {
-    Ear {
-        receiver: serial::idle_receiver(),
-        any: false,
+impl Ear {
+    fn idle() -> Ear {
+        Ear {
+            receiver: serial::idle_receiver(),
+            any: false,
+        }
     }
-}
 
-// Each byte goes over the wire with its highest bit first.
-fn heard(rt: &HostRuntime, ear: Ear, bytes: &[u8]) -> Ear {
-    let mut next = ear;
-    let mut i = 0;
-    while i < bytes.len() {
-        next = byte_heard(rt, next, bytes[i]);
-        i += 1;
-    }
-    next
-}
-
-fn byte_heard(rt: &HostRuntime, ear: Ear, byte: u8) -> Ear {
-    let mut next = ear;
-    let mut rest = byte;
-    let mut left: usize = 8;
-    while left > 0 {
-        next = bit_heard(rt, next, rest / 128 == 1);
-        rest = rest % 128 * 2;
-        left -= 1;
-    }
-    next
-}
-
-fn bit_heard(rt: &HostRuntime, ear: Ear, bit: bool) -> Ear {
-    let before = ear.receiver;
-    let heard = serial::hear(before, bit);
-    let receiver = heard.receiver;
-    let received = heard.received;
-    match received {
-        Received::Nothing => Ear {
-            receiver,
-            any: ear.any,
-        },
-        Received::Byte { register, byte } => {
-            told(rt, register, byte);
-            Ear {
-                receiver,
-                any: true,
+    // Each byte goes over the wire with its highest bit first.
+    fn hear(&mut self, rt: &HostRuntime, bytes: &[u8]) {
+        for byte in bytes {
+            for shift in (0..8u32).rev() {
+                self.hear_bit(rt, *byte >> shift & 1 == 1);
             }
         }
     }
-}
 
-fn told(rt: &HostRuntime, register: bool, byte: u8) {
-    if register {
-        print(rt, b" data");
-    } else {
-        print(rt, b" instruction");
+    fn hear_bit(&mut self, rt: &HostRuntime, bit: bool) {
+        let heard = serial::hear(self.receiver, bit);
+        self.receiver = heard.receiver;
+        if let Some(received) = heard.received {
+            self.any = true;
+            let label: &[u8] = if received.register {
+                b" data "
+            } else {
+                b" instruction "
+            };
+            print_byte(rt, label, received.byte);
+        }
     }
-    print_byte(rt, b" ", byte);
-}
 
-fn end(rt: &HostRuntime, ear: Ear) {
-    if !ear.any {
-        print(rt, b" nothing");
+    fn end(self, rt: &HostRuntime) {
+        if !self.any {
+            print(rt, b" nothing");
+        }
+        print(rt, b"\n");
     }
-    print(rt, b"\n");
 }

@@ -1,21 +1,27 @@
--- The first bit by itself, then a loop over the seven others.
-use Rattle.std.proofs.Common.{◌∙◌, arith}
-use Rattle.records.proofs.Bits.{refuses, begins, accepts, fits, turns, ends}
+-- The first bit by itself, then a loop over the seven others, none of which is refused.
+use Rattle.std.proofs.Common.{◌∙◌, refl, arith}
+use Rattle.calls.proofs.Doors.{handed_on}
+use Rattle.records.proofs.Bits.{refuses, begins, accepts, never_refused, fits, turns, ends}
 use Rattle.records.proofs.eight_bits.Goals as goal
 
-pub returns-then-first-ne0-clause-frame_after : goal.returns-then-first-ne0-clause-frame_after
-returns-then-first-ne0-clause-frame_after c = refuses _ c.args.value _ _ _ c.bit-first.ensures.frame_after c.if-first-ne0.true
+pub returns-in_err-heard-clause-leaves : goal.returns-in_err-heard-clause-leaves
+returns-in_err-heard-clause-leaves c =
+    rw (handed_on _ c.from_residual.ensures.1) (refuses _ c.args.value _ _ _ _ _ c.in_err-heard.ensures.leaves)
 
 pub loop-left-init : goal.loop-left-init
-loop-left-init c = begins _ c.args.value _ _ _ c.bit-first.ensures.frame_after c.bit-first.ensures.valid
+loop-left-init c = begins _ c.args.value _ _ _ c.in_ok-heard.ensures.leaves refl c.in_ok-heard.ensures.valid
 
-pub overflow_add-count : goal.overflow_add-count
-overflow_add-count c = omega (arith, fits _ _ c.loop-left.invariant _ _ (omega arith) c.bit-outcome.ensures.frame_after)
+pub returns-in_err-outcome-clause-leaves : goal.returns-in_err-outcome-clause-leaves
+returns-in_err-outcome-clause-leaves c =
+    absurd (never_refused _ _ c.loop-left.invariant _ _ _ _ c.in_err-outcome.ensures.leaves)
+
+pub overflow_add-heard : goal.overflow_add-heard
+overflow_add-heard c = omega (arith, fits _ _ c.loop-left.invariant _ _ (omega arith) c.in_ok-outcome.ensures.leaves)
 
 pub loop-left-preserved : goal.loop-left-preserved
-loop-left-preserved c = turns _ _ c.loop-left.invariant _ _ (omega arith) c.bit-outcome.ensures.frame_after c.bit-outcome.ensures.valid
+loop-left-preserved c = turns _ _ c.loop-left.invariant _ _ (omega arith) c.in_ok-outcome.ensures.leaves c.in_ok-outcome.ensures.valid
 
-pub returns-clause-frame_after : goal.returns-clause-frame_after
-returns-clause-frame_after c =
+pub returns-clause-leaves : goal.returns-clause-leaves
+returns-clause-leaves c =
     ends _ _ c.loop-left.invariant (omega arith)
-    ∙ accepts _ c.args.value _ _ _ c.bit-first.ensures.frame_after c.if-first-ne0.false
+    ∙ accepts _ c.args.value _ _ _ c.in_ok-heard.ensures.leaves refl

@@ -4,8 +4,8 @@ use Rattle.calls.specs.State.{Valid}
 use Rattle.panel.specs.Handed.{state_of}
 use Rattle.replay.proofs.main.Given as goal
 
-abbrev pub invariant-loop-rt : goal.invariant-loop-rt
-invariant-loop-rt l = Valid (state_of l.panel)
+abbrev pub invariant-loop-came : goal.invariant-loop-came
+invariant-loop-came l = Valid (state_of l.panel)
 
-abbrev pub decreases-loop-rt : goal.decreases-loop-rt
-decreases-loop-rt l = 2 ^ 64 - l.place
+abbrev pub decreases-loop-came : goal.decreases-loop-came
+decreases-loop-came l = 2 ^ 64 - l.place

@@ -1,7 +1,7 @@
 -- The font that is there has its 2,048 bytes.
-use Rattle.std.proofs.Common.{arith}
-use Rattle.asked.proofs.Counted.{counted}
+use Rattle.std.proofs.Common.{◌≤◌, length, sym, arith}
+use Rattle.std.proofs.lemmas.List.{length-take-le}
 use Rattle.asked.proofs.files.half_font.Goals as goal
 
-pub returns-then-at-eq0 : goal.returns-then-at-eq0
-returns-then-at-eq0 c = counted 2048 2049 c.args.half.now c.requires (omega arith)
+pub returns-in_default : goal.returns-in_default
+returns-in_default c = let k : 2048 ≤ length c.args.half.now = omega arith in (k, sym (length-take-le 2048 c.args.half.now k))

@@ -1,47 +1,36 @@
 -- Refused for its buffers, for want of time or as of the other link, or accepted, in this order.
-use Rattle.std.proofs.Common.{◌∙◌, sym}
-use Rattle.picture.proofs.Accepted as sizes
-use Rattle.calls.proofs.Doors.{refuses, refuses-timeless, refuses-other, accepts}
+use Rattle.std.proofs.Common.{◌≡◌, ◌∙◌, sym, rules}
+use Rattle.refusals.specs.declared.Refusal.TheVariants.{OtherLink}
+use Rattle.calls.proofs.Doors.{handed_on, refuses, refuses-timeless, refuses-other, accepts}
 use Rattle.calls.proofs.Fit.{done-fit, shown_in_range}
 use Rattle.calls.proofs.calls.call.Goals as goal
 
-pub returns-then-number-ne0 : goal.returns-then-number-ne0
-returns-then-number-ne0 c =
-    record {
-      frame_after = rw c.refused.ensures (refuses _ _ _ _ _ c.refusal-number.ensures c.if-number-ne0.true);
-      valid = rw c.refused.ensures c.requires;
-    }
+pub returns-in_err-check_lengths-clause-leaves : goal.returns-in_err-check_lengths-clause-leaves
+returns-in_err-check_lengths-clause-leaves c =
+    rw (handed_on _ c.from_residual.ensures.1) (refuses _ _ _ _ _ c.in_err-check_lengths.ensures.number)
 
-pub returns-then-timeless : goal.returns-then-timeless
-returns-then-timeless c =
-    record {
-      frame_after =
-          rw c.refused-then-timeless.ensures
-          (refuses-timeless _ _ _ _ _ c.refusal-number.ensures c.if-number-ne0.false (sym c.timeless.ensures ∙ c.if-timeless.true));
-      valid = rw c.refused-then-timeless.ensures c.requires;
-    }
+pub returns-then-timeless-clause-leaves : goal.returns-then-timeless-clause-leaves
+returns-then-timeless-clause-leaves c =
+    refuses-timeless _ _ _ _ c.in_ok-check_lengths.ensures.number (sym c.timeless.ensures ∙ c.if-timeless.true)
+
+pub returns-in_err-carried-clause-leaves : goal.returns-in_err-carried-clause-leaves
+returns-in_err-carried-clause-leaves c =
+    let other : c.in_err-carried.field-0.0 ≡ OtherLink = search rules in
+    rw (handed_on _ c.from_residual-in_err-carried.ensures.1, other)
+    (refuses-other _ _ _ _ c.in_ok-check_lengths.ensures.number (sym c.timeless.ensures ∙ c.if-timeless.false)
+    (sym c.in_err-carried.ensures.ok_part ∙ c.take.ensures))
 
 pub show-requires : goal.show-requires
 show-requires c =
     let fit = done-fit _ _ c.requires _ _ _ c.perform-done.ensures in
-    let lent = sizes.accepted _ _ _ (sym c.refusal-number.ensures ∙ c.if-number-ne0.false) in
-    (fit.control, fit.region, lent.frame, lent.half)
+    (fit.control, fit.region, c.in_ok-check_lengths.ensures.fits.1)
 
-pub returns-in-OtherLink : goal.returns-in-OtherLink
-returns-in-OtherLink c =
-    record {
-      frame_after =
-          rw c.refused-in-OtherLink.ensures
-          (refuses-other _ _ _ _ _ c.refusal-number.ensures c.if-number-ne0.false (sym c.timeless.ensures ∙ c.if-timeless.false) (sym c.in-OtherLink.is ∙ c.take-taken.ensures));
-      valid = rw c.refused-in-OtherLink.ensures c.requires;
-    }
+pub returns-clause-leaves : goal.returns-clause-leaves
+returns-clause-leaves c =
+    let h = (rw c.unwrap-frame.ensures at c.as_mut_array.ensures.cases).same in
+    rw (← h) c.show.ensures
+    ∙ accepts _ _ _ _ c.in_ok-check_lengths.ensures.number (sym c.timeless.ensures ∙ c.if-timeless.false) c.in_ok-carried.carried
+    (sym c.in_ok-carried.ensures.ok_part ∙ c.take.ensures) _ c.perform-done.ensures
 
-pub returns-in-Carries : goal.returns-in-Carries
-returns-in-Carries c =
-    record {
-      frame_after =
-          c.show.ensures
-          ∙ accepts _ _ _ _ _ c.refusal-number.ensures c.if-number-ne0.false (sym c.timeless.ensures ∙ c.if-timeless.false)
-          c.in-Carries.carried (sym c.in-Carries.is ∙ c.take-taken.ensures) _ c.perform-done.ensures;
-      valid = shown_in_range _ _ _ _ _ _ c.in-Carries.carried.rest c.show.ensures (done-fit _ _ c.requires _ _ _ c.perform-done.ensures);
-    }
+pub returns-clause-valid : goal.returns-clause-valid
+returns-clause-valid c = shown_in_range _ _ _ _ _ _ c.in_ok-carried.carried.rest c.show.ensures (done-fit _ _ c.requires _ _ _ c.perform-done.ensures)

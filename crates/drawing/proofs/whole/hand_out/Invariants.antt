@@ -1,11 +1,8 @@
 -- Row by row.
-use Rattle.std.proofs.Common.{◌≡◌, ◌+◌, ◌*◌, ◌-◌, ◌/◌, ◌%◌, ◌≤◌}
+use Rattle.std.proofs.Common.{◌≡◌, ◌+◌, ◌*◌, ◌/◌, ◌%◌}
 use Rattle.base.specs.Painting.{painted, everywhere, between}
 use Rattle.picture.specs.Tiles.{from_tiles}
 use Rattle.drawing.proofs.whole.hand_out.Given as goal
 
 abbrev pub invariant-loop-r : goal.invariant-loop-r
-invariant-loop-r l = (l.row ≤ l.r) × (l.r ≤ l.end) × (l.frame ≡ painted (between (32 * l.row) (32 * l.r) everywhere) (λ i. from_tiles l.tiles ((i / 32 + l.scroll) % 16) i) l.initial.frame)
-
-abbrev pub decreases-loop-r : goal.decreases-loop-r
-decreases-loop-r l = l.end - l.r
+invariant-loop-r l = l.frame ≡ painted (between (32 * l.row) (32 * l.r) everywhere) (λ i. from_tiles l.tiles ((i / 32 + l.scroll) % 16) i) l.initial.frame

@@ -1,11 +1,8 @@
 -- Cell by cell.
-use Rattle.std.proofs.Common.{◌≡◌, ◌+◌, ◌*◌, ◌-◌, ◌≤◌}
+use Rattle.std.proofs.Common.{◌≡◌, ◌+◌, ◌*◌}
 use Rattle.base.specs.Painting.{painted, everywhere, between}
 use Rattle.picture.specs.Tiles.{from_tiles}
 use Rattle.drawing.proofs.whole.hand_row.Given as goal
 
 abbrev pub invariant-loop-cell : goal.invariant-loop-cell
-invariant-loop-cell l = (l.cell ≤ 16) × (l.frame ≡ painted (between (32 * l.row) (32 * l.row + 2 * l.cell) everywhere) (from_tiles l.tiles l.y) l.initial.frame)
-
-abbrev pub decreases-loop-cell : goal.decreases-loop-cell
-decreases-loop-cell l = 16 - l.cell
+invariant-loop-cell l = l.frame ≡ painted (between (32 * l.row) (32 * l.row + 2 * l.cell) everywhere) (from_tiles l.tiles l.y) l.initial.frame

@@ -1,12 +1,12 @@
 -- Dark, or band by band from the first row to the last.
 use Rattle.std.proofs.Common.{◌≡◌, ◌∙◌, arith}
 use Rattle.picture.specs.Picture.{byte_at, picture}
-use Rattle.tiles.proofs.Laid.{dark-picture}
+use Rattle.tiles.proofs.Laid.{dark-filled}
 use Rattle.picture.proofs.Wide.{bands_begin, bands_turn, bands_end}
 use Rattle.drawing.proofs.whole.paint_whole.Goals as goal
 
-pub returns-then-look : goal.returns-then-look
-returns-then-look c = c.clear.ensures ∙ dark-picture _ _ _ c.if-look.true
+pub returns-then-scene : goal.returns-then-scene
+returns-then-scene c = c.fill.ensures.after (λ y e. e) ∙ dark-filled _ _ _ _ c.if-scene.true (omega arith)
 
 pub loop-row-init : goal.loop-row-init
 loop-row-init c = (omega arith, bands_begin (byte_at _ _ _) _)
@@ -22,4 +22,4 @@ loop-row-preserved c =
 pub returns : goal.returns
 unfolding picture
 returns c =
-    let l = c.loop-row in let k : l.row ≡ 32 = omega arith in bands_end (byte_at _ _ _) _ _ _ k c.requires.0 l.invariant.1
+    let l = c.loop-row in let k : l.row ≡ 32 = omega arith in bands_end (byte_at _ _ _) _ _ _ k (omega arith) l.invariant.1

@@ -1,15 +1,9 @@
--- Byte by byte, from the first place to the last.
-use Rattle.std.proofs.Common.{refl, arith}
+-- Byte by byte.
+use Rattle.std.proofs.Common.{rules}
 use Rattle.frame_view.specs.Plain.{plain}
-use Rattle.frame_view.proofs.Filling.{fill_begins, fill_turns, fill_ends}
+use Rattle.base.proofs.FromFn.{from_fn_upto}
 use Rattle.frame_view.proofs.pictures.plain.Goals as goal
-
-pub loop-i-init : goal.loop-i-init
-loop-i-init c = fill_begins _ _ _ refl
-
-pub loop-i-preserved : goal.loop-i-preserved
-loop-i-preserved c = fill_turns c.loop-i.invariant _ (omega arith) c.plain_byte.ensures
 
 pub returns : goal.returns
 unfolding plain
-returns c = fill_ends c.loop-i.invariant (omega arith)
+returns c = from_fn_upto _ _ 8224 _ (λ i y q h k. search rules) _ c.from_fn.ensures.items

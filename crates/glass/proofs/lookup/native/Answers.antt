@@ -5,8 +5,8 @@ use Rattle.glass.proofs.lookup.native.Goals as goal
 
 pub returns-clause-value : goal.returns-clause-value
 unfolding natives
-returns-clause-value c = rw c.widened.ensures (native_at c.args.place c.requires)
+returns-clause-value c = rw c.from.ensures (native_at c.args.place c.requires)
 
 pub returns-clause-inside : goal.returns-clause-inside
 unfolding natives
-returns-clause-inside c = rw c.widened.ensures (native_inside c.args.place c.requires)
+returns-clause-inside c = rw c.from.ensures (native_inside c.args.place c.requires)

@@ -1,17 +1,7 @@
--- The bytes before it, one byte further, and all sixteen.
-use Rattle.std.proofs.Common.{◌≡◌, ◌<◌, arith, refl}
-use Rattle.base.specs.Painting.{everywhere}
-use Rattle.base.proofs.Loops.{paint_begin, paint_every}
-use Rattle.base.proofs.Copies.{one_further}
+-- A part of what is lent.
+use Rattle.std.proofs.Common.{◌∙◌}
+use Rattle.glyph.proofs.Tiles.{stretch}
 use Rattle.glyph.proofs.tile.taken.Goals as goal
 
-pub loop-i-init : goal.loop-i-init
-loop-i-init c = (omega arith, paint_begin everywhere _ _ 0)
-
-pub loop-i-preserved : goal.loop-i-preserved
-loop-i-preserved c =
-    let l = c.loop-i in let k : l.i < 16 = omega arith in
-    (omega arith, one_further _ _ _ 0 _ _ (omega arith) l.invariant.1 _ k refl refl)
-
 pub returns : goal.returns
-returns c = let l = c.loop-i in let k : l.i ≡ 16 = omega arith in paint_every _ _ _ 16 refl (rw k at l.invariant.1)
+returns g c = c.copy_from_slice.ensures.after ∙ stretch c.args.from.now c.args.at g.row.N c.requires

@@ -1,11 +1,11 @@
--- What the call on lent memories leaves, put together.
-use Rattle.lent_pair.proofs.Both.{handed-valid}
+-- What the call on lent memories leaves; refused, the panels are what they were.
+use Rattle.calls.proofs.Doors.{handed_on}
+use Rattle.lent_pair.proofs.Both.{pair_kept, handed-valid}
 use Rattle.pair.proofs.Pair.bit.Goals as goal
 
-pub returns : goal.returns
-returns c =
-    let e = c.bit-answer.ensures.right_frame_after in
-    record {
-      right_frame_after = rw (c.panel-next_right.ensures, c.panel-next_left.ensures) e;
-      valid = rw (c.panel-next_right.ensures, c.panel-next_left.ensures) (handed-valid _ _ _ _ e c.requires.0 c.requires.1);
-    }
+pub returns-in_err-answer-clause-leaves : goal.returns-in_err-answer-clause-leaves
+returns-in_err-answer-clause-leaves c =
+    rw (handed_on _ c.from_residual.ensures.1) (pair_kept _ _ _ _ _ _ _ _ c.in_err-answer.ensures.leaves)
+
+pub returns-clause-valid : goal.returns-clause-valid
+returns-clause-valid c = handed-valid _ _ _ _ c.in_ok-answer.ensures.leaves c.requires.0 c.requires.1

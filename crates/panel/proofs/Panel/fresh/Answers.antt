@@ -8,6 +8,6 @@ pub returns : goal.returns
 unfolding fresh_state fresh_memories
 returns c =
     record {
-      result_value = rw (c.idle.ensures, c.fresh.ensures);
+      state = rw (c.idle.ensures, c.fresh.ensures);
       valid = rw c.fresh.ensures (fresh-valid _);
     }

@@ -5,4 +5,4 @@ use Rattle.printed.proofs.text.put_line.Goals as goal
 
 pub returns : goal.returns
 unfolding line
-returns c = put_then (put_then (put_then c.put_decimal-first.ensures c.put_reply-second.ensures) c.put_decimal-third.ensures) c.put_byte.ensures
+returns c = put_then (put_then (put_then c.put_decimal-first.ensures c.put_reply-second.ensures) c.put_decimal-third.ensures) c.put.ensures

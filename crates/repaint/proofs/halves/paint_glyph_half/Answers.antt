@@ -12,6 +12,6 @@ overflow_add-result c =
 
 pub returns : goal.returns
 returns c =
-    let a = c.args in let s : a.look.view.scroll < 256 = omega arith in
-    glyph-rows a.look.view a.text.now a.word a.low _ _ _ (byte_over (get_or a.glyph.now (word_place a.word a.low) 0) a.graphic.now a.look) a.frame.now _ _ refl s c.requires.1
-    (rw c.word_place-at.ensures.value at c.paint_image_row-count.ensures) (rw c.word_place-at.ensures.value at c.paint_image_row.ensures)
+    let a = c.args in let n = a.scene.now in let s : n.look.view.scroll < 256 = omega arith in
+    glyph-rows n.look.view n.text.now a.word a.low _ _ _ (byte_over (get_or n.glyphs.memory.now (word_place a.word a.low) 0) n.graphic.now n.look) a.frame.now _ _ refl s c.told-frame
+    (rw c.word_place.ensures.value at c.paint_image_row-count.ensures) (rw c.word_place.ensures.value at c.paint_image_row.ensures)

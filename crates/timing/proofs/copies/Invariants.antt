@@ -1,9 +1,0 @@
--- Turn by turn.
-use Rattle.std.proofs.Common.{◌-◌, ◌≤◌}
-use Rattle.timing.proofs.copies.Given as goal
-
-abbrev pub invariant-loop-i : goal.invariant-loop-i
-invariant-loop-i l = l.i ≤ 1000000
-
-abbrev pub decreases-loop-i : goal.decreases-loop-i
-decreases-loop-i l = 1000000 - l.i

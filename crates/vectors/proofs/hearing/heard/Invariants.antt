@@ -1,6 +1,0 @@
--- The number of bytes left falls.
-use Rattle.std.proofs.Common.{length, ◌-◌}
-use Rattle.vectors.proofs.hearing.heard.Given as goal
-
-abbrev pub decreases-loop-i : goal.decreases-loop-i
-decreases-loop-i l = length l.bytes - l.i
