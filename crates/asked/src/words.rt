@@ -17,10 +17,12 @@ pub struct Asked {
     pub records: u64,
     pub phase: bool,
     pub time: bool,
+    // Beside a picture file, which may be asked for too, before it or behind it: then the file alone is written.
     pub plain: bool,
     pub missing: bool,
 }
 
+// Help is asked for instead of a glass, and is no lack of one.
 #[derive(Clone, Copy)]
 pub enum Task {
     Help,
@@ -41,11 +43,13 @@ enum Waits {
 #[derive(Clone, Copy)]
 struct Words {
     asked: Asked,
+    // Beside the rest, for a word behind `--help` is looked at all the same, and may be wrong.
     help: bool,
     waits: Option<Waits>,
 }
 
-// A number of less than 64 bits: none where the text is none, or has more than 1844674407370955160 before its last digit.
+// A number: none where the text is none, or has more than 1844674407370955160 before its last digit. `parse` would take a plus sign, and the
+// six numbers more that 64 bits hold.
 fn number_in(text: &[u8]) -> Option<u64> {
     if text.is_empty() {
         return None;

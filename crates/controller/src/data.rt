@@ -9,7 +9,7 @@ use crate::places::{graphic_place, word_place};
 use crate::{Control, Place};
 use table::Target;
 
-// The byte goes into the next half of the target's memory.
+// The byte goes into the next half of the target's memory. The memories are three parameters here and above, as crate `calls` says.
 #[tactic(auto, unfolding(crate::specs::Data::stored))]
 pub fn store(
     text: &mut [u8; 128],

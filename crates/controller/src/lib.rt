@@ -57,7 +57,8 @@ pub struct View {
     pub numbering: Numbering,
 }
 
-// Whether the panel has time, and for how many microseconds it is busy yet.
+// Whether the panel has time, and for how many microseconds it is busy yet. No Option of the microseconds: the definitions and the spelled
+// bytes have both, as request K1 has them.
 #[derive(Clone, Copy)]
 pub struct Time {
     pub timed: bool,

@@ -60,7 +60,7 @@ fn character(frame: &[u8; 1024], line: usize, column: usize) -> u16
     cell(frame, 2 * (column - 1), 4 * (line - 1))
 }
 
-// Byte n of a character in UTF-8.
+// Byte n of a character in UTF-8: by its place, as the text is made, and so not by `encode_utf8`.
 #[tactic(auto, unfolding(crate::specs::Braille::utf8))]
 fn utf8(c: u16, n: usize) -> u8
     ensures { result ≡ utf8Of c n }

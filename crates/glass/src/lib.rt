@@ -18,7 +18,7 @@ pub enum Glass {
     Folded,
 }
 
-// How many bytes its frame has.
+// How many bytes its frame has: a table, as the next one, with a row for each glass.
 pub fn size(glass: Glass) -> usize
     ensures { result ≡ (layout_of glass).size }
 {

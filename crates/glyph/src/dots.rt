@@ -6,22 +6,13 @@ ghost use Rattle.glyph.specs.Tiles.{Inside};
 
 use crate::{Content, Glyphs};
 
-// Row y of image i.
-fn image_byte(i: u8, y: usize, right: bool, memory: &[u8; 128]) -> u8
-    requires { (i < 4) × (y < 16) }
-    ensures { result ≡ image_byte memory.now i y right }
+// Row y of one of the glyphs of 32 bytes that stand in a font, or of the images in glyph memory.
+fn wide_byte(from: &[u8], n: usize, y: usize, right: bool) -> u8
+    requires { (32 * n + 32 ≤ length from.now) × (y < 16) }
+    ensures full { result ≡ full_byte from.now n y right }
+    ensures image { result ≡ image_byte from.now n y right }
 {
-    let at = 2 * (16 * (i as usize) + y) + controller::places::half(right);
-    memory[at]
-}
-
-// Row y of full glyph n.
-fn full_byte(n: u16, y: usize, right: bool, full: &[u8]) -> u8
-    requires { (32 * n + 32 ≤ length full.now) × (y < 16) }
-    ensures { result ≡ full_byte full.now n y right }
-{
-    let at = 32 * (n as usize) + 2 * y + controller::places::half(right);
-    full[at]
+    from[32 * n + 2 * y + controller::places::half(right)]
 }
 
 // Whether a code has a half glyph.
@@ -69,10 +60,11 @@ impl Glyphs<'_> {
         requires { (y < 16) × Inside content (length self.now.full.now) }
         ensures { result ≡ dots_of self.now.half.now self.now.full.now self.now.memory.now content y right }
     {
+        let Glyphs { memory, half, full } = *self;
         match content {
-            Content::Image(i) => image_byte(i, y, right, self.memory),
-            Content::Full(n) => full_byte(n, y, right, self.full),
-            Content::Halves { high, low } => half_byte(code_of(high, low, right), y, self.half),
+            Content::Image(i) => wide_byte(memory, usize::from(i), y, right),
+            Content::Full(n) => wide_byte(full, usize::from(n), y, right),
+            Content::Halves { high, low } => half_byte(code_of(high, low, right), y, half),
             Content::Missing => box_byte(y, right),
             Content::Blank => 0,
         }

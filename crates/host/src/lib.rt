@@ -54,8 +54,8 @@ pub struct Filled {
     pub failure: Option<io::Error>,
 }
 
-// Reads until the buffer is full, the input ends or a read fails; a read brings as much as it likes, so no range counts them. A record that a failed read cut short is left out: the capture does not
-// end there.
+// Reads until the buffer is full, the input ends or a read fails; a read brings as much as it likes, so no range counts them. A record that a
+// failed read cut short is left out: the capture does not end there.
 pub fn fill<R: Read>(input: &mut R, buffer: &mut [u8]) -> Filled
     ensures { IsPrefixLen result.count buffer.new }
 {

@@ -1,4 +1,5 @@
-// A clock of the wire on memories that a board keeps and lends. It leaves what the call by value leaves.
+// A clock of the wire on memories that a board keeps and lends. It leaves what the call by value leaves. What is lent of
+// either panel stands side after side, as C lends it.
 ghost use Rattle.std.specs.Prelude.{◌≡◌, IfOk};
 ghost use Rattle.controller.specs.Memories.{memories};
 ghost use Rattle.controller.specs.State.{InRange};
@@ -19,23 +20,22 @@ pub fn bit(
     left_text: &mut [u8; 128],
     left_glyph: &mut [u8; 128],
     left_graphic: &mut [u8; 2048],
-    left: Kept,
     right_text: &mut [u8; 128],
     right_glyph: &mut [u8; 128],
     right_graphic: &mut [u8; 2048],
-    right: Kept,
+    kept: Sides<Kept>,
     clock: Clock,
     left_frame: &mut [u8],
     left_lent: &Lent,
     right_frame: &mut [u8],
     right_lent: &Lent,
 ) -> Result<LentPairOutcome, Refusal>
-    requires { InRange left.control × InRange right.control }
-    ensures leaves { pair_lent left right result (memories left_text.new left_glyph.new left_graphic.new) (memories right_text.new right_glyph.new right_graphic.new) left_frame.new right_frame.new ≡ pair_called (side (seen_by left_lent.now) (kept_state (memories left_text.old left_glyph.old left_graphic.old) left) left_frame.old) (side (seen_by right_lent.now) (kept_state (memories right_text.old right_glyph.old right_graphic.old) right) right_frame.old) clock }
+    requires { InRange kept.left.control × InRange kept.right.control }
+    ensures leaves { pair_lent kept.left kept.right result (memories left_text.new left_glyph.new left_graphic.new) (memories right_text.new right_glyph.new right_graphic.new) left_frame.new right_frame.new ≡ pair_called (side (seen_by left_lent.now) (kept_state (memories left_text.old left_glyph.old left_graphic.old) kept.left) left_frame.old) (side (seen_by right_lent.now) (kept_state (memories right_text.old right_glyph.old right_graphic.old) kept.right) right_frame.old) clock }
     ensures valid { IfOk result (λ answer. InRange answer.kept.left.control × InRange answer.kept.right.control) }
 {
-    let left_serial = is_serial(left.link);
-    let right_serial = is_serial(right.link);
+    let left_serial = is_serial(kept.left.link);
+    let right_serial = is_serial(kept.right.link);
     first_refusal(
         left_frame.len(),
         left_lent,
@@ -49,7 +49,7 @@ pub fn bit(
         left_text,
         left_glyph,
         left_graphic,
-        left,
+        kept.left,
         to_left,
         left_frame,
         left_lent,
@@ -58,7 +58,7 @@ pub fn bit(
         right_text,
         right_glyph,
         right_graphic,
-        right,
+        kept.right,
         to_right,
         right_frame,
         right_lent,

@@ -45,7 +45,8 @@ pub enum Link {
     Serial(Receiver),
 }
 
-// What half bytes have left open: a write's upper half, or the lower half of a read's answer.
+// What half bytes have left open: a write's upper half, or the lower half of a read's answer. That nothing is open is a state of the link
+// like the others, and spelled as one.
 #[derive(Clone, Copy)]
 pub enum Pairing {
     Empty,

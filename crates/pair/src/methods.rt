@@ -8,7 +8,7 @@ ghost use Rattle.pair.specs.Handed.{pair_handed};
 
 use crate::{Pair, PairOutcome};
 use calls::Kept;
-use lent_pair::Clock;
+use lent_pair::{Clock, Sides};
 use picture::lent::Lent;
 use refusals::Refusal;
 
@@ -26,21 +26,24 @@ impl Pair {
         ensures leaves { pair_handed self result left_frame.new right_frame.new ≡ pair_called (side (seen_by left_lent.now) (state_of self.left) left_frame.old) (side (seen_by right_lent.now) (state_of self.right) right_frame.old) clock }
         ensures valid { IfOk result (λ outcome. Valid (state_of outcome.pair.left) × Valid (state_of outcome.pair.right)) }
     {
+        let kept = Sides {
+            left: Kept {
+                control: self.left.control,
+                link: self.left.link,
+            },
+            right: Kept {
+                control: self.right.control,
+                link: self.right.link,
+            },
+        };
         let answer = lent_pair::bit(
             &mut self.left.text,
             &mut self.left.glyph,
             &mut self.left.graphic,
-            Kept {
-                control: self.left.control,
-                link: self.left.link,
-            },
             &mut self.right.text,
             &mut self.right.glyph,
             &mut self.right.graphic,
-            Kept {
-                control: self.right.control,
-                link: self.right.link,
-            },
+            kept,
             clock,
             left_frame,
             left_lent,

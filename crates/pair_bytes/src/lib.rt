@@ -61,17 +61,18 @@ pub fn bit(
 ) -> u32
     ensures { pair_report result (side_bytes (memories left_text.new left_glyph.new left_graphic.new) left_control.new left_link.new left_frame.new) (side_bytes (memories right_text.new right_glyph.new right_graphic.new) right_control.new right_link.new right_frame.new) ≡ pair_reported (seen_by left_lent.now) (side_bytes (memories left_text.old left_glyph.old left_graphic.old) left_control.old left_link.old left_frame.old) (seen_by right_lent.now) (side_bytes (memories right_text.old right_glyph.old right_graphic.old) right_control.old right_link.old right_frame.old) clock }
 {
-    let left = kept(left_control, left_link);
-    let right = kept(right_control, right_link);
+    let kept = Sides {
+        left: kept(left_control, left_link),
+        right: kept(right_control, right_link),
+    };
     match lent_pair::bit(
         left_text,
         left_glyph,
         left_graphic,
-        left,
         right_text,
         right_glyph,
         right_graphic,
-        right,
+        kept,
         clock,
         left_frame,
         left_lent,

@@ -7,7 +7,7 @@ use links::Link;
 
 mod methods;
 
-// The whole state of document 01. Its calls ask that it lies within its ranges, and hand on one that does; drawing asks nothing of it, and so
+// The whole state of document 01, whose controls and link are fields as the memories are, and no `Kept`. Its calls ask that it lies within its ranges, and hand on one that does; drawing asks nothing of it, and so
 // the ranges are no invariant of the type.
 #[derive(Clone, Copy)]
 pub struct Panel {

@@ -1,4 +1,4 @@
-// The calls by value: the panel goes in, and the next one is handed on.
+// The calls by value: the panel goes in, and the next one is handed on. They are document 01's calls, by its names.
 ghost use Rattle.std.specs.Prelude.{◌≡◌, IfOk};
 ghost use Rattle.refusals.specs.Numbers.{answer_number};
 ghost use Rattle.picture.specs.Lent.{seen_by};

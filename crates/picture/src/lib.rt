@@ -6,7 +6,7 @@ use controller::View;
 use glyph::Glyphs;
 
 pub mod lent;
-pub mod looks;
+mod looks;
 pub mod paint;
 pub mod shade;
 pub mod shown;

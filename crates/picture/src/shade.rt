@@ -4,7 +4,7 @@ ghost use Rattle.base.specs.Choice.{when◌then◌else◌};
 ghost use Rattle.picture.specs.Picture.{filled, inverted, overlaid};
 ghost use Rattle.picture.specs.Tiles.{counter_word};
 
-// The counter's word, or 64, which no cell shows.
+// The counter's word, or 64, which no cell shows: to compare it with a word is then one comparison, for each byte and each cell of a line.
 pub fn counter_word(cell: Option<u8>) -> u32
     ensures { result ≡ counter_word cell }
 {

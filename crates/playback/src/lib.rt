@@ -9,7 +9,7 @@ mod telling;
 
 pub use replaying::{replay, transcribe};
 
-// Why a replay stopped.
+// Why a replay stopped: a third way beside the end and a refusal, so that it is no Result.
 #[derive(Clone, Copy, Debug, PartialEq, Eq)]
 pub enum Halt {
     // At the end of the capture.
@@ -20,7 +20,7 @@ pub enum Halt {
 }
 
 // Where a replay stopped: the panel then, how many records were accepted, and why. Beside it the reply and the count of the last record
-// accepted, 0 and 0 where there was none, and how many bytes of text were written.
+// accepted, 0 and 0 where there was none, as C is told them; and how many bytes of text were written.
 #[derive(Clone, Copy)]
 pub struct Stop {
     pub panel: Panel,

@@ -56,6 +56,7 @@ fn run<L: Lines>(
         return stop;
     }
     let mut at: usize = 0;
+    // It counts nothing: it ends by what it finds, and the document asks for such a loop.
     loop {
         let step = reader::record_at(capture, at);
         let answer = taken_with(step.answer, stop.panel.control.time.timed);

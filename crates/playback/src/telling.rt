@@ -14,7 +14,7 @@ pub(crate) trait Lines {
     fn room_for(rest: usize, place: usize) -> bool
         ensures { result ≡ room_for (room_of telling rest) place };
 
-    // Puts a record's line behind those before it, and answers the place behind it.
+    // Puts a record's line behind those before it, and answers the place behind it: buffer and place side by side, as in `printed`.
     fn tell(text: &mut [u8], filled: usize, place: usize, answer: RecordAnswer) -> usize
         requires { filled + length (told_by telling (line place answer)) ≤ length text.old }
         ensures { Put text.old filled (told_by telling (line place answer)) text.new result };

@@ -6,7 +6,7 @@ ghost use Rattle.printed.specs.Text.{digit as hexDigit, decimal, shown as shownA
 use crate::RecordAnswer;
 use capture::Kind;
 
-// A hex digit, in capitals.
+// A hex digit, in capitals, which `char::from_digit` does not give.
 fn digit(d: u8) -> u8
     requires { d < 16 }
     ensures { result ≡ hexDigit d }

@@ -104,6 +104,7 @@ fn main(rt: HostRuntime) {
     let mut frame = [0u8; 1024];
     let mut panel = Panel::fresh(made);
     let mut place: usize = 0;
+    // Until the capture ends or stops: nothing is counted.
     loop {
         let came = match part(&rt, panel, place, &mut frame) {
             Ok(came) => came,

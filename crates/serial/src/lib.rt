@@ -13,7 +13,8 @@ pub enum Header {
     WithRegister { read: bool, register: bool },
 }
 
-// Outside a header: out of sync, as the document says it and so no Option of a body; or in a body, with the bits seen of the next byte and the data among them.
+// Outside a header: out of sync, as the document says it and so no Option of a body; or in a body, with the bits seen of the next byte and
+// the data among them.
 #[derive(Clone, Copy)]
 pub enum Sync {
     Lost,

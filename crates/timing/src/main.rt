@@ -191,6 +191,7 @@ fn main(rt: HostRuntime) {
     let mut word = [0u8; 16];
     // A longer word leaves its beginning there.
     let _ = rt.arg(1, &mut word);
+    // One letter, one thing: an enum of the letters would be made here only to be taken apart here.
     let sum = match word[0] {
         b'v' => by_value(),
         b't' => on_lent(text_turn),

@@ -4,7 +4,7 @@
 use crate::saying::{print, print_byte};
 use serial::Receiver;
 
-// A receiver, and whether it has received anything yet.
+// A receiver, and whether it has received anything yet: for that there is one word at the end.
 #[derive(Clone, Copy)]
 struct Ear {
     receiver: Receiver,
