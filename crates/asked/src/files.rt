@@ -6,11 +6,6 @@ use crate::saying::{failed, wrong_length};
 use host::{fill, opened, word_at};
 use refusals::Refusal;
 
-// The name that a word gives. What a word asked for was looked at when all were read: it is there, and fits.
-pub fn name_at<'a>(rt: &HostRuntime, at: usize, room: &'a mut [u8; 4096]) -> &'a [u8] {
-    word_at(rt, at, room).unwrap_or(&[])
-}
-
 // Reads a file, as far as the buffer goes: how many bytes came.
 fn load(rt: &HostRuntime, name: &[u8], buffer: &mut [u8]) -> Option<usize>
     ensures { IfSome result (λ count. IsPrefixLen count buffer.new) }
@@ -43,7 +38,8 @@ fn font<F: FnOnce(usize) -> bool>(
     ensures { IfSome result (λ count. IsPrefixLen count buffer.new) }
 {
     let mut room = [0u8; 4096];
-    let name = name_at(rt, at, &mut room);
+    // What a word asked for was looked at when all were read: it is there, and fits.
+    let name = word_at(rt, at, &mut room);
     let count = load(rt, name, buffer)?;
     if !fits(count) {
         wrong_length(rt, name, what, count, buffer.len(), refusal);

@@ -1,6 +1,6 @@
 // What the command line asks for.
 use crate::saying::{usage, wrong};
-use host::{word_at, word_count};
+use host::{word_count, word_if_any};
 
 // Files, each by the number of the argument that names it, where one does.
 #[derive(Clone, Copy)]
@@ -138,7 +138,7 @@ impl Words {
     // The next word of the command line.
     fn next(self, rt: &HostRuntime, at: usize) -> Option<Words> {
         let mut room = [0u8; 4096];
-        let Some(word) = word_at(rt, at, &mut room) else {
+        let Some(word) = word_if_any(rt, at, &mut room) else {
             return refused(rt, b"", b"an argument of more than 4,096 bytes");
         };
         match self.waits {

@@ -74,7 +74,9 @@ pub fn call(
     if timeless(control, event) {
         return Err(Refusal::Kind);
     }
-    let carried = links::take(control.function.dl, kept.link, event).ok_or(Refusal::OtherLink)?;
+    let Some(carried) = links::take(control.function.dl, kept.link, event) else {
+        return Err(Refusal::OtherLink);
+    };
     let done = perform(text, glyph, graphic, control, carried.deed);
     let frame = frame.as_mut_array::<1024>().unwrap();
     Ok(show(text, glyph, graphic, done, carried.rest, frame, lent))

@@ -108,6 +108,8 @@ impl Control {
     pub fn with_time(self, time: Time) -> Control
         ensures { result ≡ with_time time self }
     {
-        Control { time, ..self }
+        let mut next = self;
+        next.time = time;
+        next
     }
 }

@@ -66,17 +66,21 @@ impl Place {
         self.counter
     }
 
-    // The place after a half has been written or read.
+    // The place after a half has been written or read. Field by field, here and below: by `..self` a place is copied whole, and read again in
+    // pieces before that is done.
     #[tactic(auto, unfolding(crate::specs::Data::moved))]
     fn moved(self, id: bool) -> Place
         requires { self.counter < limit self.target }
         ensures { result ≡ moved id self }
     {
+        let waiting = None;
         Place {
+            target: self.target,
             counter: self.counter_after(id),
+            row: self.row,
             low: !self.low,
-            waiting: None,
-            ..self
+            dummy: self.dummy,
+            waiting,
         }
     }
 
@@ -115,11 +119,16 @@ impl Control {
     pub fn dummy_read(self) -> Control
         ensures { result ≡ dummy_read self }
     {
-        let place = Place {
+        let place = self.place;
+        let mut next = self;
+        next.place = Place {
+            target: place.target,
+            counter: place.counter,
+            row: place.row,
+            low: place.low,
             dummy: false,
             waiting: None,
-            ..self.place
         };
-        Control { place, ..self }
+        next
     }
 }

@@ -31,5 +31,4 @@ pub mod Readings
 pub mod Addresses
 pub mod Stored
 pub mod ReadBack
-pub mod Columns
 pub mod Tight

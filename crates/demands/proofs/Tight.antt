@@ -17,8 +17,9 @@ use Rattle.calls.specs.declared.LentOutcome.{LentOutcome}
 use Rattle.calls.specs.State.{State}
 use Rattle.calls.specs.Calls.{Called, left}
 use Rattle.panel.specs.declared.Panel.{Panel}
+use Rattle.panel.specs.declared.CallAnswer.{CallAnswer}
 use Rattle.panel.specs.declared.Outcome.{Outcome}
-use Rattle.panel.specs.Handed.{handed}
+use Rattle.panel.specs.Handed.{stands, handed}
 use Rattle.lent_pair.specs.declared.LentPairOutcome.{LentPairOutcome}
 use Rattle.lent_pair.specs.Pair.{PairCalled}
 use Rattle.lent_pair.specs.Lent.{pair_lent}
@@ -29,7 +30,7 @@ use Rattle.playback.specs.declared.Halt.{Halt}
 use Rattle.playback.specs.declared.Halt.TheVariants as halts
 use Rattle.playback.specs.declared.Stop.{Stop}
 use Rattle.playback.specs.Transcript.{Told, halt_number, is_full, left_by}
-use Rattle.demands.specs.Tight.{Contract, Tight, With, LeftLent, PairWithFrames, LentPairWithFrames, pair_of, PublicCall, contract_of, fresh, call, draw, lent_call, pair_bit, lent_pair_bit, send, read, record_at, answer_number, answer_taken_with, reader_over, reader_step}
+use Rattle.demands.specs.Tight.{Contract, Tight, With, LeftLent, LeftStanding, PairWithFrames, LentPairWithFrames, pair_of, PublicCall, contract_of, fresh, call, standing_call, draw, lent_call, pair_bit, lent_pair_bit, send, read, record_at, answer_number, answer_taken_with, number_of_refusal, kind_with_number, reader_over, reader_step}
 use Rattle.demands.specs.Tight.{replay, transcribe, put_last, exported_draw, exported_send, exported_replay, exported_pair_bit, braille, plain, pbm}
 
 -- the answer of a number: at 0 what an accepted call answers, and else the refusal of that number
@@ -104,6 +105,17 @@ outcome-again : (p : Panel) (outcome : Result Outcome Refusal) (frame : List ℕ
 outcome-again p (Ok outcome) frame = refl
 outcome-again p (Err refusal) frame = ap (λ (r : Result Outcome Refusal). record { result = r; buffer = frame }) (refusal-again _ refusal)
 
+abbrev standing_of : Called → LeftStanding
+standing_of k =
+    record { answer = answer_of_number (record { reply = k.reply; count = k.count }) k.number; panel = panel_of k.state; frame = k.frame }
+
+standing-again :
+    (p : Panel) (answer : Result CallAnswer Refusal) (frame : List ℕ)
+    → standing_of (stands p answer frame) ≡ record { answer = answer; panel = p; frame = frame }
+standing-again p (Ok answer) frame = refl
+standing-again p (Err refusal) frame =
+    ap (λ (r : Result CallAnswer Refusal). record { answer = r; panel = p; frame = frame }) (refusal-again _ refusal)
+
 abbrev lent_of : Called → LeftLent
 lent_of k =
     record {
@@ -172,6 +184,7 @@ tight-by k back gives i x y p q = sym (gives i x) ∙ ap back (p ∙ sym q) ∙ 
 pub tight : (p : PublicCall) → Tight (contract_of p)
 tight fresh = tight-by (contract_of fresh) panel_of (λ i x. refl)
 tight call = tight-by (contract_of call) outcome_of (λ i x. outcome-again i.state x.result x.buffer)
+tight standing_call = tight-by (contract_of standing_call) standing_of (λ i x. standing-again x.panel x.answer x.frame)
 tight draw =
     tight-by (contract_of draw) drawing_of
     (λ i x. ap (λ (r : Result (Unit {0}) Refusal). record { result = r; buffer = x.buffer }) (unit_again x.result))
@@ -188,6 +201,8 @@ tight read = tight-by (contract_of read) (λ x. x) (λ i x. refl)
 tight record_at = tight-by (contract_of record_at) (λ x. x) (λ i x. refl)
 tight (answer_number T) = tight-by (contract_of (answer_number T)) (λ x. x) (λ i x. refl)
 tight answer_taken_with = tight-by (contract_of answer_taken_with) (λ x. x) (λ i x. refl)
+tight number_of_refusal = tight-by (contract_of number_of_refusal) (λ x. x) (λ i x. refl)
+tight kind_with_number = tight-by (contract_of kind_with_number) (λ x. x) (λ i x. refl)
 tight reader_over = tight-by (contract_of reader_over) (λ x. x) (λ i x. refl)
 tight reader_step = tight-by (contract_of reader_step) (λ x. x) (λ i x. refl)
 tight replay =

@@ -19,8 +19,9 @@ use Rattle.events.specs.declared.Made.{Made}
 use Rattle.calls.specs.State.{State, kept_state, fresh_state}
 use Rattle.calls.specs.Calls.{Called, called, left}
 use Rattle.panel.specs.declared.Panel.{Panel}
+use Rattle.panel.specs.declared.CallAnswer.{CallAnswer}
 use Rattle.panel.specs.declared.Outcome.{Outcome}
-use Rattle.panel.specs.Handed.{state_of, memories_of, handed}
+use Rattle.panel.specs.Handed.{state_of, memories_of, stands, handed}
 use Rattle.lent_pair.specs.declared.Clock.{Clock}
 use Rattle.lent_pair.specs.declared.LentPairOutcome.{LentPairOutcome}
 use Rattle.lent_pair.specs.Pair.{side, PairCalled, pair_called}
@@ -29,6 +30,7 @@ use Rattle.pair.specs.declared.Pair.{Pair}
 use Rattle.pair.specs.declared.PairOutcome.{PairOutcome}
 use Rattle.pair.specs.Handed.{pair_handed}
 use Rattle.pair_bytes.specs.Report.{SideBytes, PairReport, pair_report, pair_reported}
+use Rattle.capture.specs.Kinds.{kind_numbered}
 use Rattle.capture.specs.Record.{Answer, read_first, taken_with}
 use Rattle.reader.specs.Capture.{step_at}
 use Rattle.reader.specs.Reader as reader
@@ -118,6 +120,12 @@ pub record LeftLent : Type 0 where
   pub memories : Memories
   pub frame : List ℕ
 
+-- what a call leaves that changes the panel where it stands
+pub record LeftStanding : Type 0 where
+  pub answer : Result CallAnswer Refusal
+  pub panel : Panel
+  pub frame : List ℕ
+
 -- what a call of the pair leaves, by value and on lent memories
 pub record PairWithFrames : Type 0 where
   pub outcome : Result PairOutcome Refusal
@@ -197,6 +205,8 @@ pub data PublicCall : Type 1 where
   fresh : PublicCall
   -- transfer, bit, select_low, reset and pass, each with its own event
   call : PublicCall
+  -- any of them on a panel where it stands
+  standing_call : PublicCall
   draw : PublicCall
   -- the same five on lent memories
   lent_call : PublicCall
@@ -209,6 +219,9 @@ pub data PublicCall : Type 1 where
   -- of any answer, whatever it is where nothing is refused
   answer_number : Type 0 → PublicCall
   answer_taken_with : PublicCall
+  -- the number of a refusal, and the kind with a number
+  number_of_refusal : PublicCall
+  kind_with_number : PublicCall
   reader_over : PublicCall
   reader_step : PublicCall
   replay : PublicCall
@@ -232,6 +245,14 @@ contract_of call =
       Outcome = With (Result Outcome Refusal);
       Left = Called;
       leaves = λ i x. handed i.state x.result x.buffer;
+      means = λ i. called i.seen (state_of i.state) i.frame i.call;
+    }
+contract_of standing_call =
+    record {
+      Input = Calling Panel;
+      Outcome = LeftStanding;
+      Left = Called;
+      leaves = λ i x. stands x.panel x.answer x.frame;
       means = λ i. called i.seen (state_of i.state) i.frame i.call;
     }
 contract_of draw =
@@ -271,6 +292,8 @@ contract_of read = answering read_first
 contract_of record_at = answering (λ (i : At (List ℕ)). step_at i.capture i.at)
 contract_of (answer_number T) = answering (λ (answer : Result T Refusal). numbers.answer_number answer)
 contract_of answer_taken_with = answering (λ (i : Taking). taken_with i.time i.answer)
+contract_of number_of_refusal = answering numbers.refusal_number
+contract_of kind_with_number = answering kind_numbered
 contract_of reader_step = answering reader.reader_step
 contract_of reader_over = answering (λ (i : At (Bor (List ℕ))). reader.over i.capture i.at)
 contract_of replay =

@@ -1,6 +1,6 @@
 -- Tiles: two bytes to a row, from a block or from two columns.
 use Prim.Native.Nat.{ℕ, ◌+◌, ◌*◌, ◌-◌, ◌/◌, ◌%◌, ◌<◌, ◌≤◌}
-use mathlib.Core.Path.{◌≡◌, ap, ◌∙◌}
+use mathlib.Core.Path.{◌≡◌, refl, sym, ap, ◌∙◌}
 use mathlib.Core.Logic.{◌≢◌}
 use mathlib.Core.Bool.{Bool, true, false}
 use mathlib.Core.List.{List}
@@ -12,7 +12,9 @@ use borrow.Author.Tests.{eqb-true, eqb-false, eq-eqb, ne_eqb}
 use Rattle.base.specs.Lists.{upto}
 use Rattle.base.specs.Painting.{painted, everywhere, between}
 use Rattle.base.proofs.Choice.{by_test}
-use Rattle.base.proofs.Lists.{get_or-upto, is-upto, upto_cong}
+use Rattle.base.proofs.Lists.{get_or-upto, is-upto, upto_cong, length-upto}
+use Rattle.base.proofs.Loops.{in_between, paint_every}
+use Rattle.base.proofs.Painting.{painted_cong}
 use Rattle.base.proofs.Copies.{two_further}
 use Rattle.controller.specs.Memories.{half}
 use Rattle.glyph.specs.Dots.{dots_of}
@@ -46,12 +48,29 @@ half-odd j =
     (λ t. let n : j % 2 ≢ 1 = eqb-false (j % 2) 1 t in let k : j % 2 ≡ 0 = omega arith in rw (t, k))
 
 -- two columns side by side, each given by what stands on its rows
+pub columns-laid : (to : ℕ) (f : List ℕ) (byte : ℕ → Bool → ℕ) → painted (between to (to + 32) everywhere) (λ k. beside (upto 16 (λ y. byte y false)) (upto 16 (λ y. byte y true)) (k - to)) f
+    ≡ painted (between to (to + 32) everywhere) (λ k. byte ((k - to) / 2) (odd (k - to))) f
+columns-laid to f byte =
+    painted_cong _ _ _ _ f (λ i l. refl) (λ i l t. let q = in_between to (to + 32) everywhere i t in at (i - to) (omega arith))
+  where
+    at : (j : ℕ) → j < 32 → beside (upto 16 (λ y. byte y false)) (upto 16 (λ y. byte y true)) j ≡ byte (j / 2) (odd j)
+    at j k =
+        by_test (odd j)
+        (λ e. rw e (get_or-upto 16 (λ y. byte y true) (j / 2) (omega arith)))
+        (λ e. rw e (get_or-upto 16 (λ y. byte y false) (j / 2) (omega arith)))
+
+-- a tile that is laid from its beginning is all of it
+laid-whole : (b : ℕ → ℕ) (f : List ℕ) → length f ≡ 32 → upto 32 b ≡ painted (between 0 (0 + 32) everywhere) (λ k. b (k - 0)) f
+laid-whole b f h =
+    sym (paint_every b f _ 32 h refl)
+    ∙ painted_cong _ _ b (λ k. b (k - 0)) f (λ i l. refl) (λ i l t. let k : i ≡ i - 0 = omega arith in ap b k)
+
 columns : (byte : ℕ → Bool → ℕ) → upto 32 (beside (upto 16 (λ y. byte y false)) (upto 16 (λ y. byte y true))) ≡ upto 32 (λ j. byte (j / 2) (odd j))
 columns byte =
-    upto_cong 32 (beside (upto 16 (λ y. byte y false)) (upto 16 (λ y. byte y true))) (λ j. byte (j / 2) (odd j))
-    (λ j k. by_test (odd j)
-    (λ e. rw e (get_or-upto 16 (λ y. byte y true) (j / 2) (omega arith)))
-    (λ e. rw e (get_or-upto 16 (λ y. byte y false) (j / 2) (omega arith))))
+    let blank : List ℕ = upto 32 (λ j. 0) in let h = length-upto 32 (λ j. 0) in
+    laid-whole (beside (upto 16 (λ y. byte y false)) (upto 16 (λ y. byte y true))) blank h
+    ∙ columns-laid 0 blank byte
+    ∙ sym (laid-whole (λ j. byte (j / 2) (odd j)) blank h)
 
 module _ (halves fulls glyph : List ℕ) where
   pub image_tile : (i : ℕ) → upto 32 (λ j. get_or glyph (32 * i + j) 0) ≡ upto 32 (tile_dots halves fulls glyph (Image i))

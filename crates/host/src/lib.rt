@@ -22,11 +22,16 @@ pub fn word_count(rt: &impl Env) -> usize {
 }
 
 // The word at a place of the command line; none where there is no such word or it does not fit.
-pub fn word_at<'a>(rt: &impl Env, at: usize, room: &'a mut [u8; 4096]) -> Option<&'a [u8]> {
+pub fn word_if_any<'a>(rt: &impl Env, at: usize, room: &'a mut [u8; 4096]) -> Option<&'a [u8]> {
     match rt.arg(at, room) {
         Ok(n) => Some(&room[..n]),
         Err(_) => None,
     }
+}
+
+// The same where it is known to be there, and empty where it is not.
+pub fn word_at<'a>(rt: &impl Env, at: usize, room: &'a mut [u8; 4096]) -> &'a [u8] {
+    word_if_any(rt, at, room).unwrap_or(&[])
 }
 
 // A file by its name. A name is text in UTF-8; there is no other way to open one.

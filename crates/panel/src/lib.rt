@@ -18,6 +18,13 @@ pub struct Panel {
     pub link: Link,
 }
 
+// What an accepted call answers that changes a panel where it stands: the reply and the number of bytes named.
+#[derive(Clone, Copy)]
+pub struct CallAnswer {
+    pub reply: u8,
+    pub count: usize,
+}
+
 // What an accepted call answers: the panel as it is next, the reply and the number of bytes named. A refused one leaves the caller the panel
 // that it has.
 #[derive(Clone, Copy)]

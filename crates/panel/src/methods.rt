@@ -6,9 +6,9 @@ ghost use Rattle.picture.specs.Refusals.{drawing, drawn};
 ghost use Rattle.calls.specs.State.{fresh_state, Valid};
 ghost use Rattle.events.specs.declared.Event.TheVariants as event;
 ghost use Rattle.calls.specs.Calls.{called};
-ghost use Rattle.panel.specs.Handed.{state_of, memories_of, handed};
+ghost use Rattle.panel.specs.Handed.{state_of, memories_of, stands, handed};
 
-use crate::{Outcome, Panel};
+use crate::{CallAnswer, Outcome, Panel};
 use calls::Kept;
 use controller::Control;
 use events::{Event, Made, Pin, Transfer};
@@ -30,11 +30,16 @@ impl Panel {
         }
     }
 
-    // An event comes to the panel.
-    pub fn call(mut self, event: Event, frame: &mut [u8], lent: &Lent) -> Result<Outcome, Refusal>
-        requires { Valid (state_of self) }
-        ensures leaves { handed self result frame.new ≡ called (seen_by lent.now) (state_of self) frame.old event }
-        ensures valid { IfOk result (λ outcome. Valid (state_of outcome.panel)) }
+    // An event comes to the panel, where it stands: whoever makes many calls copies none of its memories. Refused, it is as it was.
+    pub fn hear(
+        &mut self,
+        event: Event,
+        frame: &mut [u8],
+        lent: &Lent,
+    ) -> Result<CallAnswer, Refusal>
+        requires { Valid (state_of self.old) }
+        ensures leaves { stands self.new result frame.new ≡ called (seen_by lent.now) (state_of self.old) frame.old event }
+        ensures valid { Valid (state_of self.new) }
     {
         let kept = Kept {
             control: self.control,
@@ -51,10 +56,23 @@ impl Panel {
         )?;
         self.control = answer.kept.control;
         self.link = answer.kept.link;
-        Ok(Outcome {
-            panel: self,
+        Ok(CallAnswer {
             reply: answer.reply,
             count: answer.count,
+        })
+    }
+
+    // An event comes to the panel.
+    pub fn call(mut self, event: Event, frame: &mut [u8], lent: &Lent) -> Result<Outcome, Refusal>
+        requires { Valid (state_of self) }
+        ensures leaves { handed self result frame.new ≡ called (seen_by lent.now) (state_of self) frame.old event }
+        ensures valid { IfOk result (λ outcome. Valid (state_of outcome.panel)) }
+    {
+        let answered = self.hear(event, frame, lent)?;
+        Ok(Outcome {
+            panel: self,
+            reply: answered.reply,
+            count: answered.count,
         })
     }
 

@@ -25,6 +25,12 @@ word_dots e text glyph n word j = tile_dots e.half e.full glyph (word_content n 
 abbrev pub line_word : ℕ → ℕ → ℕ → ℕ
 line_word shift line cell = 16 * line + (cell + shift) % 16
 
+-- byte j of a text word's dots with cursor and blink over them
+unfoldable pub marked_byte : Fonts → List ℕ → List ℕ → Look → ℕ → ℕ → ℕ
+marked_byte e text glyph look word j =
+    inverted (at_counter look.counter word && look.blink)
+    (filled (at_counter look.counter word && (look.cursor && eqb (j / 2) 15)) (word_dots e text glyph look.view.numbering word j))
+
 -- byte j of a text word's tile: its dots, cursor, blink and line reverse
 unfoldable pub tile_byte : Fonts → List ℕ → List ℕ → Look → ℕ → ℕ → ℕ
 tile_byte e text glyph look word j =
@@ -32,12 +38,12 @@ tile_byte e text glyph look word j =
     (inverted (at_counter look.counter word && look.blink)
     (filled (at_counter look.counter word && (look.cursor && eqb (j / 2) 15)) (word_dots e text glyph look.view.numbering word j)))
 
--- a tile with its last row set, and one inverted; each if at all
+-- a tile with its last row set, and a tile or a line's tiles inverted; each if at all
 abbrev pub underlined : Bool → List ℕ → List ℕ
 underlined on = painted (λ j. on && eqb (j / 2) 15) (λ j. 0xFF)
 
 abbrev pub turned : Bool → List ℕ → List ℕ
-turned on tile = painted (λ j. on) (λ j. 0xFF - get_or tile j 0) tile
+turned on tiles = painted (λ j. on) (λ j. 0xFF - get_or tiles j 0) tiles
 
 -- byte i of tiles that lie one after the other
 abbrev pub by_tile : (ℕ → ℕ → ℕ) → ℕ → ℕ
@@ -49,6 +55,13 @@ tile_at s word = tile_byte (fonts_in s) s.text.now s.glyphs.memory.now s.look wo
 
 abbrev pub line_at : Scene → ℕ → ℕ → ℕ
 line_at s line = by_tile (λ cell j. tile_at s (line_word s.look.view.shift line cell) j)
+
+-- the same before line reverse
+abbrev pub marked_at : Scene → ℕ → ℕ → ℕ
+marked_at s word = marked_byte (fonts_in s) s.text.now s.glyphs.memory.now s.look word
+
+abbrev pub marked_line : Scene → ℕ → ℕ → ℕ
+marked_line s line = by_tile (λ cell j. marked_at s (line_word s.look.view.shift line cell) j)
 
 -- the byte that place i of a wide frame takes from row y of a line's tiles
 abbrev pub from_tiles : List ℕ → ℕ → ℕ → ℕ

@@ -34,7 +34,7 @@ use Rattle.records.specs.Records.{record_called}
 use Rattle.playback.specs.Replay.{Replayed, halted, after_answers, Room, room_of, room_for, room_behind, records_replayed, read_by, replayed}
 use Rattle.playback.specs.Transcript.{last_or, told_by, Told, told}
 use Rattle.playback.proofs.Answers.{answer_from}
-use Rattle.records.proofs.Refused.{record_timed, record_frame, record_length}
+use Rattle.records.proofs.Refused.{record_timed, record_state, record_frame, record_length}
 use Rattle.records.proofs.Once.{record_count}
 use Rattle.playback.proofs.Parts.{contents_replayed}
 
@@ -291,7 +291,7 @@ module _ (e : Seen) (telling : Bool) (c : List ℕ) (s₀ : State) (f₀ : List 
           -- a record that is refused has no effect
           pub refuses :
               (k.number ≡ 0 → ⊥)
-              → Leaves (record { ending = (halted s k.frame n k.number false).ending; reply = reply; count = count; text = text; filled = filled })
+              → Leaves (record { ending = (halted k.state k.frame n k.number false).ending; reply = reply; count = count; text = text; filled = filled })
           refuses z =
-              rw (record_frame e r.kind r.value s f k does z)
+              rw (record_state e r.kind r.value s f k does z, record_frame e r.kind r.value s f k does z)
               (ended (halted s f n k.number false) refl (g.same ∙ ap (after_answers g.before) (replayed-refused e _ c s f n at k here does space z)))

@@ -68,8 +68,8 @@ fn run<L: Lines>(
             let halt = Halt::Full;
             break Stop { halt, ..stop };
         }
-        let outcome = match obey(stop.panel, given, frame, lent) {
-            Ok(outcome) => outcome,
+        let answered = match obey(&mut stop.panel, given, frame, lent) {
+            Ok(answered) => answered,
             Err(why) => {
                 let halt = Halt::Refused(why);
                 break Stop { halt, ..stop };
@@ -77,17 +77,13 @@ fn run<L: Lines>(
         };
         let answer = RecordAnswer {
             kind: given.kind,
-            reply: outcome.reply,
-            count: outcome.count,
+            reply: answered.reply,
+            count: answered.count,
         };
-        stop = Stop {
-            panel: outcome.panel,
-            place: stop.place + 1,
-            halt: Halt::End,
-            reply: outcome.reply,
-            count: outcome.count,
-            filled: L::tell(text, stop.filled, stop.place, answer),
-        };
+        stop.filled = L::tell(text, stop.filled, stop.place, answer);
+        stop.place += 1;
+        stop.reply = answered.reply;
+        stop.count = answered.count;
         at = step.next;
     }
 }

@@ -5,4 +5,4 @@ mod answer;
 mod text;
 
 pub use answer::RecordAnswer;
-pub use text::{has_room, put_last, put_line};
+pub use text::{digit, has_room, put_last, put_line};

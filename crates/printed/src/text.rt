@@ -7,7 +7,7 @@ use crate::RecordAnswer;
 use capture::Kind;
 
 // A hex digit, in capitals, which `char::from_digit` does not give.
-fn digit(d: u8) -> u8
+pub fn digit(d: u8) -> u8
     requires { d < 16 }
     ensures { result ≡ hexDigit d }
 {

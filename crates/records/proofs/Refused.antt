@@ -110,5 +110,8 @@ module _ (e : Seen) (kind : Kind) (value : ℕ) (s : State) (frame : List ℕ) w
   record_timed = in_turn_timed e s frame _
 
   -- the frame is what it was
+  pub record_state : (k : Called) → k ≡ record_called e kind value s frame → (k.number ≡ 0 → ⊥) → k.state ≡ s
+  record_state k is z = ap (λ (x : Called). x.state) (is ∙ record_unmoved (λ y. z (ap (λ (x : Called). x.number) is ∙ y)))
+
   pub record_frame : (k : Called) → k ≡ record_called e kind value s frame → (k.number ≡ 0 → ⊥) → k.frame ≡ frame
   record_frame k is z = ap (λ (x : Called). x.frame) (is ∙ record_unmoved (λ y. z (ap (λ (x : Called). x.number) is ∙ y)))

@@ -8,8 +8,8 @@ ghost use Rattle.picture.specs.Tiles.{shown_by, in_cell_row};
 ghost use Rattle.repaint.specs.Repaint.{ViewWithin, painting, paints_on, CellWithin, run_first, run_end, in_columns};
 
 use controller::places::row_place;
-use picture::Scene;
 use picture::paint::paint_row;
+use picture::{Look, Scene};
 use std::ops::Range;
 use tiles::{tile_pair, word_tile};
 
@@ -29,30 +29,38 @@ fn run(scroll: u32, line: u32) -> Range<u32>
 }
 
 // One row of one cell: the row painter is lent its two bytes, a part from the middle of the frame.
-fn paint_cell_row(scene: &Scene, tile: &[u8; 32], row: u32, cell: u32, frame: &mut [u8; 1024])
+fn paint_cell_row(
+    tile: &[u8; 32],
+    graphic: &[u8; 2048],
+    look: Look,
+    row: u32,
+    cell: u32,
+    frame: &mut [u8; 1024],
+)
     requires { (row < 32) × (cell < 16) }
-    ensures { frame.new ≡ painted_on wide (in_cell_row row cell) (shown_by tile.now scene.now.graphic.now scene.now.look) frame.old }
+    ensures { frame.new ≡ painted_on wide (in_cell_row row cell) (shown_by tile.now graphic.now look) frame.old }
 {
-    let pair = tile_pair(scene, tile, row, cell);
+    let pair = tile_pair(tile, graphic, look, row, cell);
     let start = row_place(row, 2 * cell);
     let end = start + 2;
     paint_row(&mut frame[start..end], pair);
 }
 
-// A cell on some rows.
+// A cell on some rows. By the look and the graphic themselves: in the scene they would be looked at again for each row.
 fn paint_rows(
-    scene: &Scene,
     tile: &[u8; 32],
+    graphic: &[u8; 2048],
+    look: Look,
     cell: u32,
     run: Range<u32>,
     frame: &mut [u8; 1024],
 ) -> u32
     requires { (cell < 16) × (run.start ≤ run.end) × (run.end ≤ 32) }
-    ensures { painting result frame.new ≡ paints_on wide (rows run.start run.end (in_columns cell)) (shown_by tile.now scene.now.graphic.now scene.now.look) frame.old }
+    ensures { painting result frame.new ≡ paints_on wide (rows run.start run.end (in_columns cell)) (shown_by tile.now graphic.now look) frame.old }
 {
     let mut count: u32 = 0;
     for row in run {
-        paint_cell_row(scene, tile, row, cell, frame);
+        paint_cell_row(tile, graphic, look, row, cell, frame);
         count += 2;
     }
     count
@@ -70,7 +78,7 @@ fn paint_word(scene: &Scene, word: u32, frame: &mut [u8; 1024]) -> u32
     }
     let tile = word_tile(scene, word);
     let cell = (word + 16 - view.shift as u32) % 16;
-    paint_rows(scene, &tile, cell, run, frame)
+    paint_rows(&tile, scene.graphic, scene.look, cell, run, frame)
 }
 
 // A cell, where there is one.

@@ -9,7 +9,7 @@ ghost use Rattle.panel.specs.Handed.{state_of};
 ghost use Rattle.playback.specs.declared.Halt.TheVariants as halt;
 
 use events::{Made, Numbering};
-use host::{Filled, fail, fill, say, word_at, word_count};
+use host::{Filled, fail, fill, say, word_count, word_if_any};
 use panel::Panel;
 use picture::lent::Lent;
 use playback::{Halt, Stop};
@@ -39,7 +39,7 @@ fn from_arguments(rt: &HostRuntime) -> Option<Made> {
         return Some(made(false));
     }
     let mut room = [0u8; 4096];
-    match word_at(rt, 1, &mut room) {
+    match word_if_any(rt, 1, &mut room) {
         Some(b"--time") if count == 2 => Some(made(true)),
         _ => {
             say(rt, b"replay: the only argument is --time\n");

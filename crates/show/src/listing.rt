@@ -3,6 +3,7 @@ ghost use Rattle.std.specs.Prelude.{◌<◌};
 
 use controller::View;
 use missing::{Code, band_row, missing_at};
+use printed::digit;
 use std::io;
 
 // The line of one code: which it is, and where its cell stands on the glass.
@@ -10,8 +11,12 @@ fn print_line(rt: &HostRuntime, code: Code, row: u32, end: u32, cell: u32) -> io
     requires { row < end }
 {
     let Code { lead, trail } = code;
+    let a = char::from(digit(lead / 16));
+    let b = char::from(digit(lead % 16));
+    let c = char::from(digit(trail / 16));
+    let d = char::from(digit(trail % 16));
     let last = end - 1;
-    println!(rt; "no glyph for {lead:02X}{trail:02X}h: cell {cell}, rows {row} to {last}")
+    println!(rt; "no glyph for {a}{b}{c}{d}h: cell {cell}, rows {row} to {last}")
 }
 
 // The cells of the line that stands on the glass from `row` up to `end`, from left to right; answers whether a glyph is missing.

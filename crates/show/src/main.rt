@@ -2,11 +2,10 @@
 // What is read and written is no matter of a contract; the replay is `playback`'s and the text `frame_view`'s.
 #![tactic(auto)]
 
-use asked::files::name_at;
 use asked::saying::failed;
 use asked::words::{Asked, Task};
 use asked::{files, saying};
-use host::{created, opened};
+use host::{created, opened, word_at};
 use picture::lent::Lent;
 use playback::Halt;
 use replaying::{Ended, replayed};
@@ -35,7 +34,7 @@ fn caption(rt: &HostRuntime, ended: Ended) {
 // A picture file, by the number of the argument that names it.
 fn write_picture(rt: &HostRuntime, at: usize, frame: &[u8; 1024]) {
     let mut room = [0u8; 4096];
-    let name = name_at(rt, at, &mut room);
+    let name = word_at(rt, at, &mut room);
     let mut file = match created(rt, name) {
         Ok(file) => file,
         Err(error) => {
@@ -112,7 +111,7 @@ fn show<R: Read>(rt: &HostRuntime, asked: Asked, from: &mut R, file: &[u8]) {
 
 fn show_file(rt: &HostRuntime, asked: Asked, at: usize) {
     let mut room = [0u8; 4096];
-    let name = name_at(rt, at, &mut room);
+    let name = word_at(rt, at, &mut room);
     match opened(rt, name) {
         Ok(mut file) => show(rt, asked, &mut file, name),
         Err(error) => failed(rt, name, error),

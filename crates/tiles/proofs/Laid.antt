@@ -24,7 +24,7 @@ use Rattle.picture.specs.declared.Scene.{Scene}
 use Rattle.controller.specs.Memories.{Memories, half}
 use Rattle.controller.specs.Glass.{shown_row, shown_word}
 use Rattle.picture.specs.Picture.{Fonts, fonts_in, right, cell_byte, graphic_byte, filled, inverted, overlaid, byte_over, byte_at, wide, picture}
-use Rattle.picture.specs.Tiles.{counter_word, word_dots, line_word, underlined, turned, tile_byte, tile_at, by_tile, from_tiles, in_rows, shown_by, pair_by}
+use Rattle.picture.specs.Tiles.{counter_word, word_dots, line_word, underlined, turned, marked_byte, marked_at, marked_line, tile_byte, tile_at, line_at, by_tile, from_tiles, in_rows, shown_by, pair_by}
 use Rattle.picture.specs.declared.TwoBytes.{TwoBytes}
 use Rattle.picture.proofs.Bytes.{counter-here}
 use Rattle.picture.proofs.Unread.{half-right}
@@ -35,13 +35,10 @@ inverted-upto P f n =
     painted_upto P (λ i. 0xFF - get_or (upto n f) i 0) f n
     ∙ upto_cong n _ _ (λ i l. ap (λ (x : ℕ). when P i then 0xFF - x else f i) (get_or-upto n f i l))
 
--- marked and reversed
-marked : (n : ℕ) (f : ℕ → ℕ) (P Q R : ℕ → Bool) → (
+marked : (n : ℕ) (f : ℕ → ℕ) (P Q : ℕ → Bool) → (
     let u = painted P (λ i. 0xFF) (upto n f) in
-    let v = painted Q (λ i. 0xFF - get_or u i 0) u in
-    painted R (λ i. 0xFF - get_or v i 0) v) ≡ upto n (λ i. inverted (R i) (inverted (Q i) (filled (P i) (f i))))
-marked n f P Q R =
-    rw (painted_upto P (λ i. 0xFF) f n, inverted-upto Q (λ i. filled (P i) (f i)) n) (inverted-upto R (λ i. inverted (Q i) (filled (P i) (f i))) n)
+    painted Q (λ i. 0xFF - get_or u i 0) u) ≡ upto n (λ i. inverted (Q i) (filled (P i) (f i)))
+marked n f P Q = rw (painted_upto P (λ i. 0xFF) f n) (inverted-upto Q (λ i. filled (P i) (f i)) n)
 
 -- one cell further: its tile begins at a multiple of 32
 pub words_turn : (d : ℕ → ℕ → ℕ) (cell : ℕ) (f g h : List ℕ)
@@ -119,18 +116,35 @@ and_in_turn false w x = refl
 pub unmarked : (t : List ℕ) → t ≡ turned false (underlined false t)
 unmarked t = sym (painted-none (λ j. false) _ (underlined false t) (λ j l. refl) ∙ painted-none (λ j. false) _ t (λ j l. refl))
 
--- the dots of a word marked and reversed
-pub tile_marked : (s : Scene) (word : ℕ) (t v w : List ℕ) (here : Bool) → word < 64
+-- the dots of a word with its marks
+pub tile_marked : (s : Scene) (word : ℕ) (t v : List ℕ) (here : Bool) → word < 64
     → t ≡ upto 32 (word_dots (fonts_in s) s.text.now s.glyphs.memory.now s.look.view.numbering word)
     → here ≡ eqb word (counter_word s.look.counter)
     → v ≡ turned (here && s.look.blink) (underlined (here && s.look.cursor) t)
-    → w ≡ turned (get_or s.look.view.reversed (word / 16) false) v
-    → w ≡ upto 32 (tile_at s word)
-unfolding tile_byte
-tile_marked s word t v w here k laid is-here a b =
-    rw (b, a, laid)
-    (marked 32 _ (λ j. (here && s.look.cursor) && eqb (j / 2) 15) (λ j. here && s.look.blink) (λ j. get_or s.look.view.reversed (word / 16) false)
+    → v ≡ upto 32 (marked_at s word)
+unfolding marked_byte
+tile_marked s word t v here k laid is-here a =
+    rw (a, laid)
+    (marked 32 _ (λ j. (here && s.look.cursor) && eqb (j / 2) 15) (λ j. here && s.look.blink)
     ∙ upto_cong 32 _ _ (λ j l. rw (and_in_turn here s.look.cursor (eqb (j / 2) 15), is-here, counter-here s.look.counter word k)))
+
+-- and reversed: a word's, and a line's
+pub tile_reversed : (s : Scene) (word : ℕ) (t v : List ℕ)
+    → t ≡ upto 32 (marked_at s word) → v ≡ turned (get_or s.look.view.reversed (word / 16) false) t → v ≡ upto 32 (tile_at s word)
+unfolding tile_byte marked_byte
+tile_reversed s word t v a b =
+    rw (b, a) (inverted-upto (λ j. get_or s.look.view.reversed (word / 16) false) (marked_at s word) 32)
+
+line-of : (line shift cell : ℕ) → line_word shift line cell / 16 ≡ line
+line-of line shift cell = omega arith
+
+pub line_reversed : (s : Scene) (line : ℕ) (t v : List ℕ)
+    → t ≡ upto 512 (marked_line s line) → v ≡ turned (get_or s.look.view.reversed line false) t → v ≡ upto 512 (line_at s line)
+unfolding tile_byte marked_byte
+line_reversed s line t v a b =
+    rw (b, a)
+    (inverted-upto (λ i. get_or s.look.view.reversed line false) (marked_line s line) 512
+    ∙ upto_cong 512 _ _ (λ i l. rw (line-of line s.look.view.shift (i / 32))))
 
 -- the rows of a band show one line, one after the other
 row_in_band : (scroll row r end s : ℕ) → s ≡ (row + scroll) % 64 → row ≤ r → r < end → end + s % 16 ≤ row + 16 → (r + scroll) % 64 ≡ s + (r - row)

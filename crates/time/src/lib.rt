@@ -67,8 +67,8 @@ pub fn charged(time: Time, cost: u16) -> Time
         return time;
     }
     Time {
+        timed: time.timed,
         remaining: cost,
-        ..time
     }
 }
 

@@ -11,15 +11,15 @@ returns-in_err-heard-clause-leaves c =
 pub loop-left-init : goal.loop-left-init
 loop-left-init c = begins _ c.args.value _ _ _ c.in_ok-heard.ensures.leaves refl c.in_ok-heard.ensures.valid
 
-pub returns-in_err-outcome-clause-leaves : goal.returns-in_err-outcome-clause-leaves
-returns-in_err-outcome-clause-leaves c =
-    absurd (never_refused _ _ c.loop-left.invariant _ _ _ _ c.in_err-outcome.ensures.leaves)
+pub returns-in_err-answered-clause-leaves : goal.returns-in_err-answered-clause-leaves
+returns-in_err-answered-clause-leaves c =
+    absurd (never_refused _ _ c.loop-left.invariant _ _ _ _ c.in_err-answered.ensures.leaves)
 
 pub overflow_add-heard : goal.overflow_add-heard
-overflow_add-heard c = omega (arith, fits _ _ c.loop-left.invariant _ _ (omega arith) c.in_ok-outcome.ensures.leaves)
+overflow_add-heard c = omega (arith, fits _ _ c.loop-left.invariant _ _ (omega arith) c.in_ok-answered.ensures.leaves)
 
 pub loop-left-preserved : goal.loop-left-preserved
-loop-left-preserved c = turns _ _ c.loop-left.invariant _ _ (omega arith) c.in_ok-outcome.ensures.leaves c.in_ok-outcome.ensures.valid
+loop-left-preserved c = turns _ _ c.loop-left.invariant _ _ (omega arith) c.in_ok-answered.ensures.leaves c.in_ok-answered.ensures.valid
 
 pub returns-clause-leaves : goal.returns-clause-leaves
 returns-clause-leaves c =

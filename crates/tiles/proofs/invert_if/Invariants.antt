@@ -4,4 +4,4 @@ use Rattle.base.specs.Painting.{painted, everywhere, between}
 use Rattle.tiles.proofs.invert_if.Given as goal
 
 abbrev pub invariant-loop-byte : goal.invariant-loop-byte
-invariant-loop-byte l = l.tile ≡ painted (between 0 l.byte-index everywhere) (λ k. 0xFF - get_or l.initial.tile k 0) l.initial.tile
+invariant-loop-byte g l = l.tiles ≡ painted (between 0 l.byte-index everywhere) (λ k. 0xFF - get_or l.initial.tiles k 0) l.initial.tiles

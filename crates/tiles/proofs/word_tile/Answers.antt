@@ -1,13 +1,6 @@
--- The dots of what the word shows, marked and reversed.
-use Rattle.std.proofs.Common.{rules}
-use Rattle.picture.proofs.Bytes.{word-inside}
-use Rattle.tiles.proofs.Laid.{tile_marked}
+-- The marked tile, reversed with its line.
+use Rattle.tiles.proofs.Laid.{tile_reversed}
 use Rattle.tiles.proofs.word_tile.Goals as goal
 
-pub tile-tile-requires : goal.tile-tile-requires
-tile-tile-requires c = rw c.word_content-shown.ensures (word-inside _ _ _ _)
-
 pub returns : goal.returns
-returns c =
-    tile_marked c.args.scene.now c.args.word _ _ _ _ c.requires (rw c.word_content-shown.ensures at c.tile-tile.ensures)
-    (search rules) c.mark_if.ensures c.invert_if.ensures
+returns c = tile_reversed c.args.scene.now c.args.word _ _ c.marked_tile-tile.ensures c.invert_if.ensures

@@ -11,4 +11,4 @@ invariant-loop-row l =
     (goal.iterator-loop-row).can_next l.row-iterator
     × (goal.iterator-loop-row).is_finite l.row-iterator
     × (l.fn.run.start ≤ l.row-iterator.start) × (l.row-iterator.start ≤ l.fn.run.end) × (l.row-iterator.end ≡ l.fn.run.end)
-    × (painting l.count l.frame ≡ paints_on wide (rows l.fn.run.start l.row-iterator.start (in_columns l.cell)) (shown_by l.tile l.scene.graphic.now l.scene.look) l.initial.frame)
+    × (painting l.count l.frame ≡ paints_on wide (rows l.fn.run.start l.row-iterator.start (in_columns l.cell)) (shown_by l.tile l.graphic l.look) l.initial.frame)
