@@ -45,6 +45,33 @@ impl Panel {
             control: self.control,
             link: self.link,
         };
+        let heard = calls::call(
+            &mut self.text,
+            &mut self.glyph,
+            &mut self.graphic,
+            kept,
+            event,
+            frame,
+            lent,
+        )?;
+        self.control = heard.kept.control;
+        self.link = heard.kept.link;
+        Ok(CallAnswer {
+            reply: heard.reply,
+            count: heard.count,
+        })
+    }
+
+    // An event comes to the panel. By itself, and not by `hear`: of a panel that is lent the answer would be cleared twice.
+    pub fn call(mut self, event: Event, frame: &mut [u8], lent: &Lent) -> Result<Outcome, Refusal>
+        requires { Valid (state_of self) }
+        ensures leaves { handed self result frame.new ≡ called (seen_by lent.now) (state_of self) frame.old event }
+        ensures valid { IfOk result (λ outcome. Valid (state_of outcome.panel)) }
+    {
+        let kept = Kept {
+            control: self.control,
+            link: self.link,
+        };
         let answer = calls::call(
             &mut self.text,
             &mut self.glyph,
@@ -56,23 +83,10 @@ impl Panel {
         )?;
         self.control = answer.kept.control;
         self.link = answer.kept.link;
-        Ok(CallAnswer {
-            reply: answer.reply,
-            count: answer.count,
-        })
-    }
-
-    // An event comes to the panel.
-    pub fn call(mut self, event: Event, frame: &mut [u8], lent: &Lent) -> Result<Outcome, Refusal>
-        requires { Valid (state_of self) }
-        ensures leaves { handed self result frame.new ≡ called (seen_by lent.now) (state_of self) frame.old event }
-        ensures valid { IfOk result (λ outcome. Valid (state_of outcome.panel)) }
-    {
-        let answered = self.hear(event, frame, lent)?;
         Ok(Outcome {
             panel: self,
-            reply: answered.reply,
-            count: answered.count,
+            reply: answer.reply,
+            count: answer.count,
         })
     }
 

@@ -2,8 +2,8 @@
 use Rattle.calls.proofs.StaysInRange.{left-valid}
 use Rattle.panel.proofs.Panel.hear.Goals as goal
 
-pub returns-in_err-answer-clause-valid : goal.returns-in_err-answer-clause-valid
-returns-in_err-answer-clause-valid c = left-valid _ _ _ _ _ c.in_err-answer.ensures.leaves c.requires
+pub returns-in_err-heard-clause-valid : goal.returns-in_err-heard-clause-valid
+returns-in_err-heard-clause-valid c = left-valid _ _ _ _ _ c.in_err-heard.ensures.leaves c.requires
 
 pub returns-clause-valid : goal.returns-clause-valid
-returns-clause-valid c = left-valid _ _ _ _ _ c.in_ok-answer.ensures.leaves c.requires
+returns-clause-valid c = left-valid _ _ _ _ _ c.in_ok-heard.ensures.leaves c.requires
